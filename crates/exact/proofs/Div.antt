@@ -1,0 +1,116 @@
+-- The laws of rounded division.
+use mathlib.Core.Path.{_≡_, refl, sym, _∙_, ap}
+use mathlib.Core.Logic.{_↔_, _⊎_, inl, inr, ⊎-elim}
+use Prim.Native.Nat.{ℕ, zero, suc, _*_, _≤_, _<_}
+use native.Mathlib.Nat as N
+use lib.IntN.{ℤ, pos, negsuc, negℤ, _*ℤ_, zero-*ℤ}
+use lib.Signed.{_≤ℤ_, _<ℤ_, ≤ℤ-refl}
+use Rattle.algebra.proofs.Ordered as Ord
+use Rattle.exact.specs.Int.{ints, ℤ-ordered, mul-dif, pos-≤, pos-<, <-pos}
+use Rattle.exact.specs.Int.{neg-≤, ≤-neg, *ℤ-neg, *ℤ-assoc, *ℤ-mono, *ℤ-cancel, neg-*ℤ, ≤ℤ-trans, ≡-below, ≤ℤ-or-<ℤ}
+unfoldable pub use Rattle.exact.specs.Div.{floorDiv, ceilDiv, floorQuot, ceilQuot}
+pub use Rattle.exact.specs.Div.{bySign, floor-le, floor-lt, floor-iff, ceil-iff}
+
+pub floor-mono : {a b : ℤ} {d : ℕ} → zero < d → a ≤ℤ b → floorDiv a d ≤ℤ floorDiv b d
+floor-mono {a} {b} p h = floor-iff _ b p .1 (≤ℤ-trans (floor-le a p) h)
+
+-- ════ rounded up ════
+
+pub ceil-ge : (a : ℤ) {d : ℕ} → zero < d → a ≤ℤ (ceilDiv a d *ℤ pos d)
+ceil-ge a {d} p = ceil-iff (ceilDiv a d) a p .0 (≤ℤ-refl _)
+
+pub ceil-mono : {a b : ℤ} {d : ℕ} → zero < d → a ≤ℤ b → ceilDiv a d ≤ℤ ceilDiv b d
+ceil-mono {a} {b} p h = ceil-iff _ a p .1 (≤ℤ-trans h (ceil-ge b p))
+
+pub floor≤ceil : (a : ℤ) {d : ℕ} → zero < d → floorDiv a d ≤ℤ ceilDiv a d
+floor≤ceil a {d} p = *ℤ-cancel d p (≤ℤ-trans (floor-le a p) (ceil-ge a p))
+
+-- a factor common to the two cancels
+pub floor-cancel : (a : ℤ) {d k : ℕ} → zero < d → zero < k → floorDiv (a *ℤ pos k) (d * k) ≡ floorDiv a d
+floor-cancel a {d} {k} p r = ≡-below (λ q. (
+  λ h. floor-iff q a p .1 (*ℤ-cancel k r (rw (← (*ℤ-assoc q (pos d) (pos k))) at (floor-iff q (a *ℤ pos k) (N.mul-pos p r) .0 h))),
+  λ h. floor-iff q (a *ℤ pos k) (N.mul-pos p r) .1 (rw (← (*ℤ-assoc q (pos d) (pos k))) (*ℤ-mono k (floor-iff q a p .0 h))),
+))
+
+pub ceil-cancel : (a : ℤ) {d k : ℕ} → zero < d → zero < k → ceilDiv (a *ℤ pos k) (d * k) ≡ ceilDiv a d
+unfolding ceilDiv
+ceil-cancel a {d} {k} p r = ap negℤ (ap (λ x. floorDiv x (d * k)) (sym (neg-*ℤ a (pos k))) ∙ floor-cancel (negℤ a) p r)
+
+-- ════ by an integer of either sign ════
+
+module _ (q a : ℤ) where
+  pub floorQuot-pos : {d : ℤ} → pos 0 <ℤ d → (q ≤ℤ floorQuot a d) ↔ ((q *ℤ d) ≤ℤ a)
+  unfolding floorQuot
+  floorQuot-pos {d = pos d} p = floor-iff q a (<-pos p)
+  floorQuot-pos {d = negsuc d} p = absurd (p .lt)
+
+  pub ceilQuot-pos : {d : ℤ} → pos 0 <ℤ d → (ceilQuot a d ≤ℤ q) ↔ (a ≤ℤ (q *ℤ d))
+  unfolding ceilQuot
+  ceilQuot-pos {d = pos d} p = ceil-iff q a (<-pos p)
+  ceilQuot-pos {d = negsuc d} p = absurd (p .lt)
+
+  -- a negative divisor turns the inequality
+  pub floorQuot-neg : {d : ℤ} → d <ℤ pos 0 → (q ≤ℤ floorQuot a d) ↔ (a ≤ℤ (q *ℤ d))
+  unfolding floorQuot
+  floorQuot-neg {d = pos d} p = let f : ⊥ = omega ints in absurd f
+  floorQuot-neg {d = negsuc d} p =
+      let i = floor-iff q (negℤ a) (N.zero-lt-suc d) in
+      rw (*ℤ-neg q (pos (suc d))) (λ h. ≤-neg (i .0 h), λ h. i .1 (≤-neg h))
+
+  pub ceilQuot-neg : {d : ℤ} → d <ℤ pos 0 → (ceilQuot a d ≤ℤ q) ↔ ((q *ℤ d) ≤ℤ a)
+  unfolding ceilQuot
+  ceilQuot-neg {d = pos d} p = let f : ⊥ = omega ints in absurd f
+  ceilQuot-neg {d = negsuc d} p =
+      let i = ceil-iff q (negℤ a) (N.zero-lt-suc d) in
+      rw (*ℤ-neg q (pos (suc d))) (λ h. neg-≤ (i .0 h), λ h. i .1 (neg-≤ h))
+
+-- ════ a smaller divisor ════
+
+-- of a number that is not negative, the smaller of two divisors of one sign gives the greater quotient
+module _ {n d e : ℤ} (n-nonneg : pos 0 ≤ℤ n) (h : d ≤ℤ e) where
+  pub floorQuot-anti : (pos 0 <ℤ d) ⊎ (e <ℤ pos 0) → floorQuot n e ≤ℤ floorQuot n d
+  floorQuot-anti (inl p) =
+      let r : pos 0 <ℤ e = omega ints in
+      let nonneg : pos 0 ≤ℤ floorQuot n e = floorQuot-pos (pos 0) n r .1 (rw (zero-*ℤ e) n-nonneg) in
+      floorQuot-pos _ n p .1 (≤ℤ-trans (Ord.mul-le-left ℤ-ordered nonneg h) (floorQuot-pos _ n r .0 (≤ℤ-refl _)))
+  floorQuot-anti (inr p) =
+      let r : d <ℤ pos 0 = omega ints in
+      floorQuot-neg _ n r .1 (≤ℤ-trans (floorQuot-neg _ n p .0 (≤ℤ-refl _)) (Ord.mul-le-left-neg ℤ-ordered nonpos h))
+    where
+      nonpos : floorQuot n e ≤ℤ pos 0
+      nonpos =
+          ⊎-elim (λ k. k)
+          (λ k. let f = floorQuot-neg (pos 1) n p .0 (omega ints) in let g : ⊥ = omega (ints, mul-dif (pos 1) e) in absurd g)
+          (≤ℤ-or-<ℤ (floorQuot n e) (pos 0))
+
+  pub ceilQuot-anti : (pos 0 <ℤ d) ⊎ (e <ℤ pos 0) → ceilQuot n e ≤ℤ ceilQuot n d
+  ceilQuot-anti (inl p) =
+      let r : pos 0 <ℤ e = omega ints in
+      ceilQuot-pos _ n r .1 (≤ℤ-trans (ceilQuot-pos _ n p .0 (≤ℤ-refl _)) (Ord.mul-le-left ℤ-ordered nonneg h))
+    where
+      nonneg : pos 0 ≤ℤ ceilQuot n d
+      nonneg =
+          ⊎-elim (λ k. k)
+          (λ k. let f = ceilQuot-pos (negsuc 0) n p .0 (omega ints) in let g : ⊥ = omega (ints, mul-dif (negsuc 0) d) in absurd g)
+          (≤ℤ-or-<ℤ (pos 0) (ceilQuot n d))
+  ceilQuot-anti (inr p) =
+      let r : d <ℤ pos 0 = omega ints in
+      let nonpos : ceilQuot n d ≤ℤ pos 0 = ceilQuot-neg (pos 0) n r .1 (rw (zero-*ℤ d) n-nonneg) in
+      ceilQuot-neg _ n p .1 (≤ℤ-trans (Ord.mul-le-left-neg ℤ-ordered nonpos h) (ceilQuot-neg _ n r .0 (≤ℤ-refl _)))
+
+module _ (n : ℕ) {d e : ℕ} (p : zero < d) (h : d ≤ e) where
+  pub floor-anti : floorDiv (pos n) e ≤ℤ floorDiv (pos n) d
+  unfolding floorQuot
+  floor-anti = floorQuot-anti {n = pos n} {d = pos d} {e = pos e} (omega ints) (pos-≤ h) (inl (pos-< p))
+
+  pub ceil-anti : ceilDiv (pos n) e ≤ℤ ceilDiv (pos n) d
+  unfolding ceilQuot
+  ceil-anti = ceilQuot-anti {n = pos n} {d = pos d} {e = pos e} (omega ints) (pos-≤ h) (inl (pos-< p))
+
+-- all compute
+quotients : (floorDiv (pos 7) 2 ≡ pos 3) × (floorDiv (negsuc 6) 2 ≡ negsuc 3)
+    × (ceilDiv (pos 7) 2 ≡ pos 4) × (ceilDiv (negsuc 6) 2 ≡ negsuc 2)
+    × (floorDiv (negsuc 9223372036854775807) 10000 ≡ negsuc 922337203685477)
+    × (floorQuot (pos 100000000) (negsuc 29999) ≡ negsuc 3333) × (ceilQuot (pos 100000000) (negsuc 29999) ≡ negsuc 3332)
+unfolding floorDiv ceilDiv floorQuot ceilQuot
+quotients = (refl, refl, refl, refl, refl, refl, refl)

@@ -1,0 +1,284 @@
+-- Inclusion isotonicity: valid narrower operands give a valid narrower result, `isotonicity`. Assumes nothing.
+use mathlib.Core.Bool.{Bool, true, false, _&&_, not, cond}
+use mathlib.Core.List.{List}
+use mathlib.Core.Logic.{inl, inr}
+use Prim.Native.Nat.{ℕ, zero, suc, _≤_, _<_, zero-le}
+use native.Mathlib.Nat as N
+use lib.Dec.{T, lit<}
+use lib.IntN.{ℤ, pos, negsuc, negℤ, natAbs, _*ℤ_}
+use lib.Signed.{leZ, _≤ℤ_, _<ℤ_, ≤ℤ-refl, <ℤ-≤ℤ-trans, leZ-yes}
+use Rattle.exact.specs.Int.{ℤ-ordered}
+use Rattle.algebra.proofs.Ordered as Ord
+use Rattle.exact.specs.Int.{ints, neg-dif, +ℤ-mono, neg-anti, leZ-no, pos-≤, ≤-pos, ≤ℤ-trans, ≤ℤ-<ℤ-trans}
+use Rattle.exact.proofs.Div.{floor-mono, ceil-mono, floor≤ceil}
+use Rattle.exact.proofs.Sqrt.{ceil-root-mono}
+use Rattle.range.specs.declared.Range.{Range}
+use Rattle.range.specs.Limit.{fromTo, oneRange, over, isValid, kept}
+use Rattle.range.specs.Arithmetic.{lesserOf, greaterOf, leastProduct, greatestProduct, endsSum, endsNeg, endsTimes, endsProduct, endsInverse, endsHull, holdsZero, sumOf, negOf, timesOf, productOf, inverseOf, hullOf}
+use Rattle.range.specs.Power.{chain, upsWithin, isEven, powOf}
+use Rattle.range.specs.Sums.{has, at, validOver, endsProducts, productsOf, largestSquare, squareSum, squaresOf, rootSum, rootOf}
+use Rattle.range.specs.Laws.{_⊑_, Narrower, Isotonicity}
+use Rattle.range.proofs.Valid.{and-left, and-right, and-both, ends-of, sticky₁-of}
+use Rattle.range.proofs.Extremes.{extremes, least-any, greatest-any, lesser-any, greater-any, lesser-left, lesser-right, greater-left, greater-right}
+use Rattle.range.proofs.Powers.{ten-thousand, Grows, chain-high, down-down, down-up, up-up}
+use Rattle.range.proofs.PowerForms.{aboveZero, belowZero, nearest, farthest, powEven, oddWithin, powOdd, powOfValid, pow-form, ups-mono, above-mono, below-anti, nearest-farthest}
+use Rattle.range.proofs.Quotients.{OneSign, floorQuot-anti, ceilQuot-anti, floorQuot≤ceilQuot}
+use Rattle.range.proofs.SumOver.{sumOver-mono, sumOver-nonneg, members-valid, valid-over, squareSum-nonneg}
+use Rattle.range.proofs.Within.{Within, within-of, within-⊑, ⊑-refl, if-isotone, unless-isotone, kept-isotone, sticky₁-isotone, sticky₂-isotone}
+
+-- ---- sum, negation, multiple, hull
+module _ {a b c d : Range} (m : Within a c) (n : Within b d) where
+  sum-within : Within (endsSum a b) (endsSum c d)
+  sum-within = record { low = +ℤ-mono (m .low) (n .low); order = +ℤ-mono (m .order) (n .order); high = +ℤ-mono (m .high) (n .high) }
+
+  hull-within : Within (endsHull a b) (endsHull c d)
+  hull-within = record {
+    low = lesser-any (a .low) (b .low) (λ z. lesserOf (c .low) (d .low) ≤ℤ z)
+        (≤ℤ-trans (lesser-left (c .low) (d .low)) (m .low))
+        (≤ℤ-trans (lesser-right (c .low) (d .low)) (n .low));
+    order = ≤ℤ-trans (lesser-left (a .low) (b .low)) (≤ℤ-trans (m .order) (greater-left (a .high) (b .high)));
+    high = greater-any (a .high) (b .high) (λ z. z ≤ℤ greaterOf (c .high) (d .high))
+        (≤ℤ-trans (m .high) (greater-left (c .high) (d .high)))
+        (≤ℤ-trans (n .high) (greater-right (c .high) (d .high)));
+  }
+
+module _ {a c : Range} (w : Within a c) where
+  neg-within : Within (endsNeg a) (endsNeg c)
+  neg-within = record { low = neg-anti (w .high); order = neg-anti (w .order); high = neg-anti (w .low) }
+
+  times-within : (k : ℕ) → Within (endsTimes k a) (endsTimes k c)
+  times-within k = record { low = scaled (w .low); order = scaled (w .order); high = scaled (w .high) }
+    where
+      scaled : {x y : ℤ} → x ≤ℤ y → (pos k *ℤ x) ≤ℤ (pos k *ℤ y)
+      scaled h = Ord.mul-le-left ℤ-ordered (pos-≤ zero-le) h
+
+-- ---- product
+module _ {a b c d : Range} (m : Within a c) (n : Within b d) where
+  -- a product of numbers in the narrower operands lies between the extremes of the wider ones' end products
+  between : {x y : ℤ} → a .low ≤ℤ x → x ≤ℤ a .high → b .low ≤ℤ y → y ≤ℤ b .high
+      → (leastProduct c d ≤ℤ (x *ℤ y)) × ((x *ℤ y) ≤ℤ greatestProduct c d)
+  between p q r s =
+      let e = extremes (c .low *ℤ d .low) (c .low *ℤ d .high) (c .high *ℤ d .low) (c .high *ℤ d .high) in
+      let p′ = ≤ℤ-trans (m .low) p in
+      let q′ = ≤ℤ-trans q (m .high) in
+      let r′ = ≤ℤ-trans (n .low) r in
+      let s′ = ≤ℤ-trans s (n .high) in (
+        Ord.product-lower ℤ-ordered p′ q′ r′ s′ (e .low-1) (e .low-2) (e .low-3) (e .low-4),
+        Ord.product-upper ℤ-ordered p′ q′ r′ s′ (e .high-1) (e .high-2) (e .high-3) (e .high-4),
+      )
+
+  product-within : Within (endsProduct a b) (endsProduct c d)
+  unfolding endsProduct
+  product-within =
+      let al = ≤ℤ-refl (a .low) in
+      let ah = ≤ℤ-refl (a .high) in
+      let bl = ≤ℤ-refl (b .low) in
+      let bh = ≤ℤ-refl (b .high) in
+      let ll = between al (m .order) bl (n .order) in
+      let lh = between al (m .order) (n .order) bh in
+      let hl = between (m .order) ah bl (n .order) in
+      let hh = between (m .order) ah (n .order) bh in
+      let e = extremes (a .low *ℤ b .low) (a .low *ℤ b .high) (a .high *ℤ b .low) (a .high *ℤ b .high) in
+      record {
+        low = floor-mono ten-thousand (least-any _ _ _ _ (λ z. leastProduct c d ≤ℤ z) (ll .0) (lh .0) (hl .0) (hh .0));
+        order = ≤ℤ-trans (floor≤ceil (leastProduct a b) ten-thousand) (ceil-mono ten-thousand (≤ℤ-trans (e .low-1) (e .high-1)));
+        high = ceil-mono ten-thousand (greatest-any _ _ _ _ (λ z. z ≤ℤ greatestProduct c d) (ll .1) (lh .1) (hl .1) (hh .1));
+      }
+
+-- ---- inverse
+one-sign : (x y : ℤ) → T (not (leZ x (pos 0) && leZ (pos 0) y)) → OneSign x y
+one-sign x y t = go (leZ x (pos 0)) (leZ (pos 0) y) leZ-no leZ-no t
+  where
+    go : (p q : Bool) → (T (not p) → pos 0 <ℤ x) → (T (not q) → y <ℤ pos 0) → T (not (p && q)) → OneSign x y
+    go true q f g t = inr (g t)
+    go false q f g t = inl (f tt)
+
+-- a part of a range that is on one side of 0
+part-sign : {x y u v : ℤ} → x ≤ℤ u → v ≤ℤ y → OneSign x y → OneSign u v
+part-sign h k (inl o) = inl (<ℤ-≤ℤ-trans o h)
+part-sign h k (inr o) = inr (≤ℤ-<ℤ-trans k o)
+
+module _ {a c : Range} (w : Within a c) where
+  zero-wider : T (holdsZero a) → T (holdsZero c)
+  zero-wider t =
+      let l : a .low ≤ℤ pos 0 = leZ-yes (and-left (leZ (a .low) (pos 0)) (leZ (pos 0) (a .high)) t) in
+      let h : pos 0 ≤ℤ a .high = leZ-yes (and-right (leZ (a .low) (pos 0)) (leZ (pos 0) (a .high)) t) in
+      and-both (leZ (c .low) (pos 0)) (leZ (pos 0) (c .high)) (≤ℤ-trans (w .low) l .le) (≤ℤ-trans h (w .high) .le)
+
+  inverse-within : T (not (holdsZero c)) → Within (endsInverse a) (endsInverse c)
+  unfolding endsInverse
+  inverse-within t =
+      let o = one-sign (c .low) (c .high) t in
+      record {
+        low = floorQuot-anti 100000000 (w .high) (part-sign (≤ℤ-trans (w .low) (w .order)) (≤ℤ-refl (c .high)) o);
+        order = floorQuot≤ceilQuot 100000000 (w .order) (part-sign (w .low) (w .high) o);
+        high = ceilQuot-anti 100000000 (w .low) (part-sign (≤ℤ-refl (c .low)) (≤ℤ-trans (w .order) (w .high)) o);
+      }
+
+inverse-isotone : {a c : Range} → a ⊑ c → inverseOf a ⊑ inverseOf c
+unfolding inverseOf
+inverse-isotone {a} {c} n =
+    unless-isotone (holdsZero a) (holdsZero c)
+    (λ t. zero-wider (within-of n (sticky₁-of endsInverse c t .operand)))
+    (λ t. sticky₁-isotone endsInverse (λ w. inverse-within w t) n)
+
+-- ---- power
+grow : {f g : ℤ → ℤ} → Grows f g → {k : ℕ} {m : ℤ} → pos k ≤ℤ m → (e : ℕ) → chain f (pos k) e ≤ℤ chain g m e
+grow s h e = chain-high s (pos-≤ zero-le) h e
+
+module _ {a c : Range} (w : Within a c) where
+  nearest-anti : nearest c ≤ℤ nearest a
+  nearest-anti = omega (ints, above-mono (w .low), below-anti (w .high))
+
+  farthest-mono : farthest a ≤ℤ farthest c
+  farthest-mono =
+      greater-any (negℤ (a .low)) (a .high) (λ z. z ≤ℤ farthest c)
+      (≤ℤ-trans (neg-anti (w .low)) (greater-left (negℤ (c .low)) (c .high)))
+      (≤ℤ-trans (w .high) (greater-right (negℤ (c .low)) (c .high)))
+
+  ordered : nearest a ≤ℤ farthest a
+  ordered = nearest-farthest (a .low) (a .high) (w .order)
+
+  farthest-nonneg : pos 0 ≤ℤ farthest a
+  farthest-nonneg = ≤ℤ-trans (pos-≤ zero-le) ordered
+
+  module _ (e : ℕ) where
+    even-isotone : powEven a e ⊑ powEven c e
+    even-isotone =
+        if-isotone (upsWithin (farthest a) e) (upsWithin (farthest c) e)
+        (ups-mono farthest-nonneg farthest-mono e)
+        (λ t. within-⊑ (record {
+          low = grow down-down nearest-anti e;
+          order = grow down-up ordered e;
+          high = chain-high up-up farthest-nonneg farthest-mono e;
+        }))
+
+    odd-isotone : powOdd a e ⊑ powOdd c e
+    odd-isotone =
+        let low-below = below-anti (w .low) in
+        let high-above = above-mono (w .high) in
+        if-isotone (oddWithin a e) (oddWithin c e)
+        (λ t. and-both
+        (upsWithin (belowZero (a .low)) e)
+        (upsWithin (aboveZero (a .high)) e)
+        (ups-mono (pos-≤ zero-le) low-below e (and-left (upsWithin (belowZero (c .low)) e) (upsWithin (aboveZero (c .high)) e) t))
+        (ups-mono (pos-≤ zero-le) high-above e (and-right (upsWithin (belowZero (c .low)) e) (upsWithin (aboveZero (c .high)) e) t)))
+        (λ t. within-⊑ (record {
+          low = Ord.sub-mono ℤ-ordered (grow down-down (above-mono (w .low)) e) (grow up-up low-below e);
+          order = Ord.sub-mono ℤ-ordered (grow down-up (above-mono (w .order)) e) (grow down-up (below-anti (w .order)) e);
+          high = Ord.sub-mono ℤ-ordered (grow up-up high-above e) (grow down-down (below-anti (w .high)) e);
+        }))
+
+valid-isotone : {a c : Range} → Within a c → c .low ≤ℤ c .high → (e : ℕ) → powOfValid a e ⊑ powOfValid c e
+valid-isotone w o zero = ⊑-refl oneRange
+valid-isotone {a} {c} w o (suc e) = rw (pow-form a (w .order) e, pow-form c o e) (go (isEven (suc e)))
+  where
+    go : (p : Bool) → cond p (powEven a (suc e)) (powOdd a (suc e)) ⊑ cond p (powEven c (suc e)) (powOdd c (suc e))
+    go true = even-isotone w (suc e)
+    go false = odd-isotone w (suc e)
+
+power-isotone : {a c : Range} (e : ℕ) → a ⊑ c → powOf a e ⊑ powOf c e
+unfolding powOf
+power-isotone {a} {c} e n =
+    if-isotone (isValid a) (isValid c) (λ t. n .inside t .valid) (λ t. valid-isotone (within-of n t) (ends-of c t .order) e)
+
+-- ---- sums over a set
+-- what lists give of which the wider one's members are valid
+record MembersWithin (s : ℕ) (f h : List Range) : Type 0 where
+  valid : T (validOver s f)
+  within : (a : ℕ) → a < 8 → T (has s a) → Within (at f a) (at h a)
+
+members-of : {s : ℕ} {f h : List Range} → Narrower s f h → T (validOver s h) → MembersWithin s f h
+members-of {s} {f} {h} n t =
+    let v = members-valid s h t in
+    record { valid = valid-over s f (λ a l u. n .each a l u .inside (v a l u) .valid); within = λ a l u. within-of (n .each a l u) (v a l u) }
+
+-- a test of the members of one list, and of two, before a total that counts
+one-isotone : {s : ℕ} {f h : List Range} {x y : Range} → (MembersWithin s f h → Within x y) → Narrower s f h
+    → cond (validOver s f) (kept x) over ⊑ cond (validOver s h) (kept y) over
+one-isotone {s} {f} {h} w n =
+    if-isotone (validOver s f) (validOver s h) (λ t. members-of n t .valid) (λ t. kept-isotone (w (members-of n t)))
+
+two-isotone : {s : ℕ} {f g h k : List Range} {x y : Range}
+    → (MembersWithin s f h → MembersWithin s g k → Within x y)
+    → Narrower s f h
+    → Narrower s g k
+    → cond (validOver s f && validOver s g) (kept x) over ⊑ cond (validOver s h && validOver s k) (kept y) over
+two-isotone {s} {f} {g} {h} {k} w m n =
+    if-isotone (validOver s f && validOver s g) (validOver s h && validOver s k)
+    (λ t. and-both (validOver s f) (validOver s g) (left t .valid) (right t .valid))
+    (λ t. kept-isotone (w (left t) (right t)))
+  where
+    left : T (validOver s h && validOver s k) → MembersWithin s f h
+    left t = members-of m (and-left (validOver s h) (validOver s k) t)
+
+    right : T (validOver s h && validOver s k) → MembersWithin s g k
+    right t = members-of n (and-right (validOver s h) (validOver s k) t)
+
+products-within : {s : ℕ} {f g h k : List Range} → MembersWithin s f h → MembersWithin s g k → Within (endsProducts s f g) (endsProducts s h k)
+unfolding endsProducts
+products-within {s} {f} {g} {h} {k} m n =
+    record {
+      low = sumOver-mono ℤ-ordered s (λ a l u. each a l u .low);
+      order = sumOver-mono ℤ-ordered s (λ a l u. each a l u .order);
+      high = sumOver-mono ℤ-ordered s (λ a l u. each a l u .high);
+    }
+  where
+    each : (a : ℕ) → a < 8 → T (has s a) → Within (endsProduct (at f a) (at g a)) (endsProduct (at h a) (at k a))
+    each a l u = product-within (m .within a l u) (n .within a l u)
+
+-- ---- squares
+square-mono : {a c : Range} → Within a c → largestSquare a ≤ℤ largestSquare c
+unfolding largestSquare
+square-mono {a} {c} w =
+    let l = greater-left (c .low *ℤ c .low) (c .high *ℤ c .high) in
+    let r = greater-right (c .low *ℤ c .low) (c .high *ℤ c .high) in
+    ceil-mono ten-thousand
+    (greater-any (a .low *ℤ a .low) (a .high *ℤ a .high) (λ z. z ≤ℤ greaterOf (c .low *ℤ c .low) (c .high *ℤ c .high))
+    (Ord.square-upper ℤ-ordered (w .low) (≤ℤ-trans (w .order) (w .high)) l r)
+    (Ord.square-upper ℤ-ordered (≤ℤ-trans (w .low) (w .order)) (w .high) l r))
+
+squares-mono : {s : ℕ} {f g : List Range} → MembersWithin s f g → squareSum s f ≤ℤ squareSum s g
+unfolding squareSum
+squares-mono {s} m = sumOver-mono ℤ-ordered s (λ a l u. square-mono (m .within a l u))
+
+squares-within : {s : ℕ} {f g : List Range} → MembersWithin s f g → Within (fromTo (pos 0) (squareSum s f)) (fromTo (pos 0) (squareSum s g))
+squares-within {s} {f} m = record { low = ≤ℤ-refl (pos 0); order = squareSum-nonneg s f; high = squares-mono m }
+
+-- ---- root
+natAbs-mono : {x y : ℤ} → pos 0 ≤ℤ x → x ≤ℤ y → natAbs x ≤ natAbs y
+natAbs-mono {x = pos a} {y = pos b} p h = ≤-pos h
+natAbs-mono {x = pos a} {y = negsuc b} p h = absurd (h .le)
+natAbs-mono {x = negsuc a} p h = absurd (p .le)
+
+root-mono : {s : ℕ} {f g h k : List Range} → MembersWithin s f h → MembersWithin s g k → rootSum s f g ≤ℤ rootSum s h k
+unfolding rootSum
+root-mono {s} {f} {g} m n =
+    pos-≤ (ceil-root-mono (N.mul-le-mul (natAbs-mono (squareSum-nonneg s f) (squares-mono m)) (natAbs-mono (squareSum-nonneg s g) (squares-mono n))))
+
+root-nonneg : (s : ℕ) (f g : List Range) → pos 0 ≤ℤ rootSum s f g
+unfolding rootSum
+root-nonneg s f g = pos-≤ zero-le
+
+root-within : {s : ℕ} {f g h k : List Range} → MembersWithin s f h → MembersWithin s g k
+    → Within (fromTo (negℤ (rootSum s f g)) (rootSum s f g)) (fromTo (negℤ (rootSum s h k)) (rootSum s h k))
+root-within {s} {f} {g} m n =
+    let p = root-nonneg s f g in
+    let q = root-mono m n in
+    record { low = neg-anti q; order = omega (ints, neg-dif (rootSum s f g)); high = q }
+
+-- ---- the operations
+pub isotonicity : Isotonicity
+unfolding sumOf negOf timesOf productOf hullOf productsOf squaresOf rootOf
+isotonicity = record {
+  sum = sticky₂-isotone endsSum sum-within;
+  negation = sticky₁-isotone endsNeg neg-within;
+  multiple = λ k. sticky₁-isotone (endsTimes k) (λ w. times-within w k);
+  product = sticky₂-isotone endsProduct product-within;
+  inverse = inverse-isotone;
+  power = power-isotone;
+  hull = sticky₂-isotone endsHull hull-within;
+  products = two-isotone products-within;
+  squares = one-isotone squares-within;
+  root = two-isotone root-within;
+}

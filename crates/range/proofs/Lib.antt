@@ -1,0 +1,25 @@
+-- Laws of ranges, and what the proofs of the functions use.
+pub mod Valid
+pub mod Extremes
+pub mod Powers
+pub mod Fitting
+pub mod Inverting
+pub mod Climbing
+pub mod Squares
+pub mod Scanning
+pub mod Units
+pub mod Quotients
+pub mod SumOver
+pub mod PowerForms
+pub mod Within
+pub mod Closure
+pub mod Symmetry
+pub mod Isotone
+pub mod Laws
+pub mod Holds
+pub mod Scaled
+pub mod Bounded
+pub mod InclusionInverse
+pub mod InclusionPower
+pub mod InclusionSums
+pub mod Inclusion

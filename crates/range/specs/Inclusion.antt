@@ -1,0 +1,55 @@
+-- What each operation means: it holds the exact results of the numbers that its operands hold. Proved in proofs/Inclusion.antt: `inclusion`.
+use mathlib.Core.Path.{_≡_}
+use mathlib.Core.List.{List}
+use Prim.Native.Nat.{ℕ, _<_}
+use lib.Dec.{T}
+use lib.IntN.{ℤ, pos, negℤ}
+use Rattle.algebra.specs.Ring as Ring
+use Rattle.exact.specs.Rat.{ℚ, fromℤ, _+ℚ_, _*ℚ_, negℚ, _≤ℚ_, 0ℚ, 1ℚ}
+use Rattle.exact.specs.Units.{units, In}
+use Rattle.exact.proofs.Rat.{ℚ-ring}
+use Rattle.range.specs.declared.Range.{Range}
+use Rattle.range.specs.Limit.{zeroRange, oneRange, isValid}
+use Rattle.range.specs.Arithmetic.{sumOf, negOf, timesOf, productOf, inverseOf, hullOf}
+use Rattle.range.specs.Power.{powOf}
+use Rattle.range.specs.Sums.{has, sumOver, at, productsOf, squaresOf, rootOf}
+
+-- x lies between the ends of r, an end of u units being u/10,000, if r is valid. Of `over` it says nothing, so that what follows needs no condition
+-- on a result.
+infix 4 _∈_
+pub record _∈_ (x : ℚ) (r : Range) : Type 0 where
+  pub between : T (isValid r) → In (r .low) (r .high) x
+
+-- Numbers of which those of the factors in s lie in their ranges.
+pub record Members (s : ℕ) (x : ℕ → ℚ) (g : List Range) : Type 0 where
+  pub each : (a : ℕ) → a < 8 → T (has s a) → x a ∈ at g a
+
+abbrev pub num : ℕ → ℚ
+num k = fromℤ (pos k)
+
+infixr 80 _^_
+abbrev pub _^_ : ℚ → ℕ → ℚ
+x ^ e = Ring.pow ℚ-ring x e
+
+abbrev pub sumℚ : ℕ → (ℕ → ℚ) → ℚ
+sumℚ s f = sumOver ℚ-ring s f
+
+pub record Inclusion : Type 0 where
+  pub zero : 0ℚ ∈ zeroRange
+  pub one : 1ℚ ∈ oneRange
+  pub sum : {a b : Range} {x y : ℚ} → x ∈ a → y ∈ b → x +ℚ y ∈ sumOf a b
+  pub negation : {a : Range} {x : ℚ} → x ∈ a → negℚ x ∈ negOf a
+  pub multiple : {a : Range} {x : ℚ} (k : ℕ) → x ∈ a → num k *ℚ x ∈ timesOf k a
+  pub product : {a b : Range} {x y : ℚ} → x ∈ a → y ∈ b → x *ℚ y ∈ productOf a b
+  -- y is 1/x; where the inverse is valid there is one
+  pub inverse : {a : Range} {x y : ℚ} → x ∈ a → x *ℚ y ≡ 1ℚ → y ∈ inverseOf a
+  pub divisor : {a : Range} {x : ℚ} → T (isValid (inverseOf a)) → x ∈ a → ¬ (x ≡ 0ℚ)
+  pub power : {a : Range} {x : ℚ} (e : ℕ) → x ∈ a → x ^ e ∈ powOf a e
+  pub hull-left : {a : Range} (b : Range) {x : ℚ} → x ∈ a → x ∈ hullOf a b
+  pub hull-right : (a : Range) {b : Range} {x : ℚ} → x ∈ b → x ∈ hullOf a b
+  pub products : {s : ℕ} {g h : List Range} {x y : ℕ → ℚ} → Members s x g → Members s y h → sumℚ s (λ a. x a *ℚ y a) ∈ productsOf s g h
+  pub squares : {s : ℕ} {g : List Range} {x : ℕ → ℚ} → Members s x g → sumℚ s (λ a. x a *ℚ x a) ∈ squaresOf s g
+  -- [−β, β] with (Σ x²)(Σ y²) ≤ β²
+  pub root-ends : (s : ℕ) (g h : List Range) → T (isValid (rootOf s g h)) → (rootOf s g h .low ≡ negℤ (rootOf s g h .high)) × (0ℚ ≤ℚ units (rootOf s g h .high))
+  pub root : {s : ℕ} {g h : List Range} {x y : ℕ → ℚ} → Members s x g → Members s y h → T (isValid (rootOf s g h))
+      → sumℚ s (λ a. x a *ℚ x a) *ℚ sumℚ s (λ a. y a *ℚ y a) ≤ℚ units (rootOf s g h .high) *ℚ units (rootOf s g h .high)

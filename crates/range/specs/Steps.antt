@@ -1,0 +1,62 @@
+-- What private functions give, end by end, on the way to an operation of 01.
+use mathlib.Core.Path.{_≡_}
+use mathlib.Core.Bool.{true, false}
+use Prim.Native.Nat.{ℕ, _*_, _≤_}
+use lib.IntN.{ℤ, pos, negsuc, negℤ, natAbs, _*ℤ_}
+use lib.Signed.{leZ}
+use Rattle.exact.specs.Sqrt.{ceilSqrt}
+use Rattle.exact.specs.Div.{floorDiv, ceilDiv}
+use Rattle.range.specs.declared.Range.{Range}
+use Rattle.range.specs.Limit.{fromTo, isValid, kept}
+use Rattle.range.specs.Arithmetic.{lesserOf, greaterOf}
+
+-- ends of which two have a sum that fits
+pub record Small (r : Range) : Type 0 where
+  pub low : natAbs (r .low) ≤ 4000000000000000000
+  pub high : natAbs (r .high) ≤ 4000000000000000000
+
+-- k times each end, and two ends in order
+abbrev pub endsBy : ℤ → Range → Range
+endsBy k a = fromTo (k *ℤ a .low) (k *ℤ a .high)
+
+abbrev pub sortedOf : Range → Range
+sortedOf r = fromTo (lesserOf (r .low) (r .high)) (greaterOf (r .low) (r .high))
+
+-- n divided by each end, outward, for ends above 0
+abbrev pub endsOver : ℤ → Range → Range
+endsOver n r = fromTo (floorDiv n (natAbs (r .low))) (ceilDiv n (natAbs (r .high)))
+
+-- the inverse above 0, and below 0, where dividend and divisor change sign
+abbrev pub invAbove : Range → Range
+invAbove a = kept (endsOver (pos 100000000) (fromTo (a .high) (a .low)))
+
+abbrev pub invBelow : Range → Range
+invBelow a = kept (endsOver (negsuc 99999999) (fromTo (negℤ (a .high)) (negℤ (a .low))))
+
+abbrev pub squaresOfEnds : Range → Range
+squaresOfEnds r = fromTo (r .low *ℤ r .low) (r .high *ℤ r .high)
+
+-- from 0 on
+abbrev pub upTo : ℤ → Range
+upTo x = fromTo (pos 0) x
+
+-- from −β to β, β the root of x·y, rounded up
+abbrev pub aroundRoot : ℕ → ℕ → Range
+aroundRoot x y = kept (fromTo (negℤ (pos (ceilSqrt (x * y)))) (pos (ceilSqrt (x * y))))
+
+-- What the functions for the power e ask of a range, by the signs of its ends.
+pub record Magnitudes (r : Range) (e : ℕ) : Type 0 where
+  pub valid : isValid r ≡ true
+  pub sign : leZ (pos 0) (r .low) ≡ true
+  pub some : 1 ≤ e
+
+pub record Negatives (r : Range) (e : ℕ) : Type 0 where
+  pub valid : isValid r ≡ true
+  pub sign : leZ (r .high) (pos 0) ≡ true
+  pub some : 1 ≤ e
+
+pub record Astride (r : Range) (e : ℕ) : Type 0 where
+  pub valid : isValid r ≡ true
+  pub left : leZ (pos 0) (r .low) ≡ false
+  pub right : leZ (r .high) (pos 0) ≡ false
+  pub some : 1 ≤ e

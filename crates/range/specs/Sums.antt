@@ -1,0 +1,68 @@
+-- Sums over the factors of a set: 01, "Range arithmetic" ("A sum over the factors of a set is one step, so only its total counts, and no product
+-- or square summed in it") and the sums in Sq and Cross of "Sets and bends".
+use mathlib.Core.Bool.{Bool, true, _&&_, _||_, not, cond}
+use mathlib.Core.List.{List}
+use Prim.Native.Nat.{ℕ, zero, suc, _*_, _/_, _%_, _^_}
+use lib.Dec.{eqb}
+use lib.IntN.{ℤ, pos, negℤ, _*ℤ_, natAbs}
+use lib.ListN.{getD}
+use Rattle.algebra.specs.Ring.{CommRing}
+use Rattle.algebra.specs.Sum.{sum}
+use Rattle.exact.specs.Int.{ℤ-ring}
+use Rattle.exact.specs.Div.{ceilDiv}
+use Rattle.exact.specs.Sqrt.{ceilSqrt}
+use Rattle.range.specs.declared.Range.{Range}
+use Rattle.range.specs.Limit.{fromTo, zeroRange, over, isValid, kept}
+use Rattle.range.specs.Arithmetic.{greaterOf, endsProduct}
+
+-- A set of factors is a mask: the factor a, counted from 0, is in the set s where the binary digit of s at a is 1.
+unfoldable pub has : ℕ → ℕ → Bool
+has s a = eqb (s / 2 ^ a % 2) 1
+
+-- The sum of f over the factors in s. There are at most eight factors.
+unfoldable pub sumOver : {R : Type 0} → CommRing R → ℕ → (ℕ → R) → R
+sumOver 𝓡 s f = sum 𝓡 8 (λ a. cond (has s a) (f a) (𝓡 .𝟘))
+
+-- A list of ranges, one for each factor.
+abbrev pub at : List Range → ℕ → Range
+at g a = getD g a zeroRange
+
+-- Those of the factors in s are all valid: of the first n factors, and of all.
+unfoldable pub validBelow : ℕ → ℕ → List Range → Bool
+validBelow zero s g = true
+validBelow (suc n) s g = validBelow n s g && (not (has s n) || isValid (at g n))
+
+abbrev pub validOver : ℕ → List Range → Bool
+validOver s g = validBelow 8 s g
+
+-- Cross: "the sum of the products".
+unfoldable pub endsProducts : ℕ → List Range → List Range → Range
+endsProducts s g h =
+    fromTo
+    (sumOver ℤ-ring s (λ a. endsProduct (at g a) (at h a) .low))
+    (sumOver ℤ-ring s (λ a. endsProduct (at g a) (at h a) .high))
+
+unfoldable pub productsOf : ℕ → List Range → List Range → Range
+productsOf s g h = cond (validOver s g && validOver s h) (kept (endsProducts s g h)) over
+
+-- Sq: "the largest squares, each divided by 10,000 and rounded up", and their sum.
+unfoldable pub largestSquare : Range → ℤ
+largestSquare r = ceilDiv (greaterOf (r .low *ℤ r .low) (r .high *ℤ r .high)) 10000
+
+unfoldable pub squareSum : ℕ → List Range → ℤ
+squareSum s g = sumOver ℤ-ring s (λ a. largestSquare (at g a))
+
+-- Sq: "from 0 to the sum of the largest squares".
+abbrev pub endsSquares : ℕ → List Range → Range
+endsSquares s g = fromTo (pos 0) (squareSum s g)
+
+unfoldable pub squaresOf : ℕ → List Range → Range
+squaresOf s g = cond (validOver s g) (kept (endsSquares s g)) over
+
+-- Cross: "[−β, β], where β is the square root, rounded up, of the product of the two sums used in Sq; here β counts as an end and the two sums do
+-- not". The root of x units times y units is √(x·y) units.
+unfoldable pub rootSum : ℕ → List Range → List Range → ℤ
+rootSum s g h = pos (ceilSqrt (natAbs (squareSum s g) * natAbs (squareSum s h)))
+
+unfoldable pub rootOf : ℕ → List Range → List Range → Range
+rootOf s g h = cond (validOver s g && validOver s h) (kept (fromTo (negℤ (rootSum s g h)) (rootSum s g h))) over

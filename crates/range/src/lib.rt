@@ -1,0 +1,299 @@
+// Ranges of whole numbers of units: one unit is 1/10,000, and an end is at most 2,000,000,000 units, either sign.
+// Every operation is total. A result with an end beyond the limit is `OVER`, which is no range, and an operand that is no valid range gives `OVER`
+// too: so a caller tests the last of many operations, and not each.
+ghost use mathlib.Core.Path.{_≡_};
+ghost use mathlib.Core.Bool.{true};
+ghost use Prim.Native.Nat.{_≤_};
+ghost use lib.IntN.{pos, natAbs};
+ghost use lib.Signed.{ltZ};
+ghost use Rattle.exact.specs.Div.{floorDiv, ceilDiv};
+ghost use Rattle.range.specs.Limit.{fromTo, isValid, bothValid, kept};
+ghost use Rattle.range.specs.Arithmetic.{lesserOf, greaterOf, endsSum, sumOf, endsNeg, negOf, timesOf, spreadOf, scaledOf, endsProduct, productOf, inverseOf, endsHull, hullOf};
+ghost use Rattle.range.specs.Steps.{Small, endsBy, sortedOf, endsOver, invAbove, invBelow, upTo};
+
+mod power; // power.rt: the power of a range
+mod root; // root.rt: the square root of a product, rounded up
+mod sums; // sums.rt: sums over the factors of a set
+
+
+
+
+
+pub struct Range {
+    pub low: i64,
+    pub high: i64,
+}
+
+fn lesser(x: i64, y: i64) -> i64
+    ensures { λ r. ⌜ r ≡ lesserOf x y ⌝ }
+{
+    if x <= y { x } else { y }
+}
+
+fn greater(x: i64, y: i64) -> i64
+    ensures { λ r. ⌜ r ≡ greaterOf x y ⌝ }
+{
+    if x <= y { y } else { x }
+}
+
+// x / d, rounded toward minus infinity. −1 − x exchanges n and −(n + 1).
+fn floor_div(x: i64, d: i64) -> i64
+    requires { ⌜ ltZ (pos 0) d ≡ true ⌝ }
+    ensures { λ r. ⌜ r ≡ floorDiv x (natAbs d) ⌝ }
+{
+    if x < 0 { -1 - (-1 - x) / d } else { x / d }
+}
+
+// x / d, rounded toward plus infinity.
+fn ceil_div(x: i64, d: i64) -> i64
+    requires { ⌜ ltZ (pos 0) d ≡ true ⌝ }
+    ensures { λ r. ⌜ r ≡ ceilDiv x (natAbs d) ⌝ }
+{
+    if 0 < x { (x - 1) / d + 1 } else { x / d }
+}
+
+impl Range {
+    pub const ZERO: Range = Range { low: 0, high: 0 };
+
+    pub const ONE: Range = Range {
+        low: 10_000,
+        high: 10_000,
+    };
+
+    pub const WHOLE: Range = Range {
+        low: -2_000_000_000,
+        high: 2_000_000_000,
+    };
+
+    pub const OVER: Range = Range { low: 1, high: 0 };
+
+    pub fn new(low: i64, high: i64) -> Range
+        ensures { λ r. ⌜ r ≡ fromTo low high ⌝ }
+    {
+        Range {
+            low: low,
+            high: high,
+        }
+    }
+
+    // Whether the ends are in order and within the limit.
+    pub fn valid(self) -> bool
+        ensures { λ r. ⌜ r ≡ isValid self ⌝ }
+    {
+        (-2_000_000_000 <= self.low) & ((self.low <= self.high) & (self.high <= 2_000_000_000))
+    }
+
+    fn both_valid(self, other: Range) -> bool
+        ensures { λ r. ⌜ r ≡ bothValid self other ⌝ }
+    {
+        self.valid() & other.valid()
+    }
+
+    // This range, if it is one.
+    fn kept(self) -> Range
+        ensures { λ r. ⌜ r ≡ kept self ⌝ }
+    {
+        if self.valid() { self } else { Range::OVER }
+    }
+
+    fn ends_sum(self, other: Range) -> Range
+        requires { ⌜ Small self ⌝ }
+        requires { ⌜ Small other ⌝ }
+        ensures { λ r. ⌜ r ≡ endsSum self other ⌝ }
+    {
+        Range {
+            low: self.low + other.low,
+            high: self.high + other.high,
+        }
+    }
+
+    pub fn sum(self, other: Range) -> Range
+        ensures { λ r. ⌜ r ≡ sumOf self other ⌝ }
+    {
+        if self.both_valid(other) {
+            self.ends_sum(other).kept()
+        } else {
+            Range::OVER
+        }
+    }
+
+    fn ends_negated(self) -> Range
+        requires { ⌜ isValid self ≡ true ⌝ }
+        ensures { λ r. ⌜ r ≡ endsNeg self ⌝ }
+    {
+        Range {
+            low: -self.high,
+            high: -self.low,
+        }
+    }
+
+    pub fn negated(self) -> Range
+        ensures { λ r. ⌜ r ≡ negOf self ⌝ }
+    {
+        if self.valid() {
+            self.ends_negated()
+        } else {
+            Range::OVER
+        }
+    }
+
+    // k times each end.
+    fn ends_by(self, k: i64) -> Range
+        requires { ⌜ isValid self ≡ true ⌝ }
+        requires { ⌜ natAbs k ≤ 2000000000 ⌝ }
+        ensures { λ r. ⌜ r ≡ endsBy k self ⌝ }
+    {
+        Range {
+            low: k * self.low,
+            high: k * self.high,
+        }
+    }
+
+    // k times this range, k a whole number.
+    pub fn times(self, k: u8) -> Range
+        ensures { λ r. ⌜ r ≡ timesOf k self ⌝ }
+    {
+        if self.valid() {
+            self.ends_by(k as i64).kept()
+        } else {
+            Range::OVER
+        }
+    }
+
+    // The two ends in order.
+    fn sorted(self) -> Range
+        ensures { λ r. ⌜ r ≡ sortedOf self ⌝ }
+    {
+        Range {
+            low: lesser(self.low, self.high),
+            high: greater(self.low, self.high),
+        }
+    }
+
+    fn ends_hull(self, other: Range) -> Range
+        ensures { λ r. ⌜ r ≡ endsHull self other ⌝ }
+    {
+        Range {
+            low: lesser(self.low, other.low),
+            high: greater(self.high, other.high),
+        }
+    }
+
+    // From 0 to the high end.
+    fn from_zero(self) -> Range
+        ensures { λ r. ⌜ r ≡ upTo (self .high) ⌝ }
+    {
+        Range {
+            low: 0,
+            high: self.high,
+        }
+    }
+
+    // Divided by 10,000, outward.
+    fn scaled(self) -> Range
+        ensures { λ r. ⌜ r ≡ scaledOf self ⌝ }
+    {
+        Range {
+            low: floor_div(self.low, 10_000),
+            high: ceil_div(self.high, 10_000),
+        }
+    }
+
+    // The least and the greatest of the four end products.
+    fn spread(self, other: Range) -> Range
+        requires { ⌜ isValid self ≡ true ⌝ }
+        requires { ⌜ isValid other ≡ true ⌝ }
+        ensures { λ r. ⌜ r ≡ spreadOf self other ⌝ }
+    {
+        let a = other.ends_by(self.low).sorted();
+        let b = other.ends_by(self.high).sorted();
+        a.ends_hull(b)
+    }
+
+    fn ends_product(self, other: Range) -> Range
+        requires { ⌜ isValid self ≡ true ⌝ }
+        requires { ⌜ isValid other ≡ true ⌝ }
+        ensures { λ r. ⌜ r ≡ endsProduct self other ⌝ }
+    {
+        self.spread(other).scaled()
+    }
+
+    pub fn product(self, other: Range) -> Range
+        ensures { λ r. ⌜ r ≡ productOf self other ⌝ }
+    {
+        if self.both_valid(other) {
+            self.ends_product(other).kept()
+        } else {
+            Range::OVER
+        }
+    }
+
+    // n divided by each end, outward.
+    fn ends_over(self, n: i64) -> Range
+        requires { ⌜ ltZ (pos 0) (self .low) ≡ true ⌝ }
+        requires { ⌜ ltZ (pos 0) (self .high) ≡ true ⌝ }
+        ensures { λ r. ⌜ r ≡ endsOver n self ⌝ }
+    {
+        Range {
+            low: floor_div(n, self.low),
+            high: ceil_div(n, self.high),
+        }
+    }
+
+    // The inverse of a range above 0.
+    fn inverse_above(self) -> Range
+        requires { ⌜ isValid self ≡ true ⌝ }
+        requires { ⌜ ltZ (pos 0) (self .low) ≡ true ⌝ }
+        ensures { λ r. ⌜ r ≡ invAbove self ⌝ }
+    {
+        let by = Range {
+            low: self.high,
+            high: self.low,
+        };
+        by.ends_over(100_000_000).kept()
+    }
+
+    // The inverse of a range below 0: dividend and divisor change sign.
+    fn inverse_below(self) -> Range
+        requires { ⌜ isValid self ≡ true ⌝ }
+        requires { ⌜ ltZ (self .high) (pos 0) ≡ true ⌝ }
+        ensures { λ r. ⌜ r ≡ invBelow self ⌝ }
+    {
+        self.ends_negated().ends_over(-100_000_000).kept()
+    }
+
+    fn inverse_by_sign(self) -> Range
+        requires { ⌜ isValid self ≡ true ⌝ }
+        ensures { λ r. ⌜ r ≡ inverseOf self ⌝ }
+    {
+        if 0 < self.low {
+            self.inverse_above()
+        } else if self.high < 0 {
+            self.inverse_below()
+        } else {
+            Range::OVER
+        }
+    }
+
+    // 1 over this range: `OVER` where it holds 0.
+    pub fn inverse(self) -> Range
+        ensures { λ r. ⌜ r ≡ inverseOf self ⌝ }
+    {
+        if self.valid() {
+            self.inverse_by_sign()
+        } else {
+            Range::OVER
+        }
+    }
+
+    // The least range that holds both.
+    pub fn hull(self, other: Range) -> Range
+        ensures { λ r. ⌜ r ≡ hullOf self other ⌝ }
+    {
+        if self.both_valid(other) {
+            self.ends_hull(other)
+        } else {
+            Range::OVER
+        }
+    }
+}

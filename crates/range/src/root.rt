@@ -1,0 +1,91 @@
+// The square root of a product, rounded up, as the end of a range. A guess is made quickly and trusted for nothing; a search from there is exact.
+ghost use mathlib.Core.Path.{_≡_};
+ghost use Prim.Native.Nat.{_≤_, _*_};
+ghost use Rattle.exact.specs.Sqrt.{ceilSqrt};
+ghost use Rattle.range.specs.Steps.{aroundRoot};
+use super::Range;
+
+// A power of 2 near the root of x: nothing rests on which one.
+fn power_near(x: u64) -> u64
+    ensures { λ r. ⌜ (1 ≤ r) × (r ≤ 4294967296) ⌝ }
+{
+    let zeros = u64::leading_zeros(x);
+    if 62 < zeros {
+        return 1;
+    }
+    let r = 1u64 << ((64 - zeros) / 2);
+    if r < 1 {
+        return 1;
+    }
+    if r <= 4_294_967_296 { r } else { 4_294_967_296 }
+}
+
+// Near the root of x, by Newton's rule: nothing rests on how near.
+fn near_root(x: u64) -> u64
+    requires { ⌜ x ≤ 4000000000000000000 ⌝ }
+    ensures { λ r. ⌜ r ≤ 2000000000 ⌝ }
+{
+    let mut r = power_near(x);
+    let mut k: u64 = 0;
+    while k < 5 {
+        r = (r + x / r) / 2 + 1;
+        k += 1;
+    }
+    if r <= 2_000_000_000 { r } else { 2_000_000_000 }
+}
+
+// The first number from r on whose square is not below x.
+fn root_above(x: u64, from: u64) -> u64
+    requires { ⌜ x ≤ 4000000000000000000 ⌝ }
+    requires { ⌜ from ≤ 2000000000 ⌝ }
+    ensures { λ r. ⌜ (x ≤ r * r) × (r ≤ 2000000000) ⌝ }
+{
+    let mut r = from;
+    while r * r < x {
+        r += 1;
+    }
+    r
+}
+
+// From a number whose square is not below x down to the least one.
+fn least_root(x: u64, from: u64) -> u64
+    requires { ⌜ 1 ≤ x ⌝ }
+    requires { ⌜ from ≤ 2000000000 ⌝ }
+    requires { ⌜ x ≤ from * from ⌝ }
+    ensures { λ r. ⌜ r ≡ ceilSqrt x ⌝ }
+    ensures { λ r. ⌜ r ≤ 2000000000 ⌝ }
+{
+    let mut r = from;
+    while x <= (r - 1) * (r - 1) {
+        r -= 1;
+    }
+    r
+}
+
+// The square root of x, rounded up.
+fn root_up(x: u64) -> u64
+    requires { ⌜ 1 ≤ x ⌝ }
+    requires { ⌜ x ≤ 4000000000000000000 ⌝ }
+    ensures { λ r. ⌜ r ≡ ceilSqrt x ⌝ }
+    ensures { λ r. ⌜ r ≤ 2000000000 ⌝ }
+{
+    least_root(x, root_above(x, near_root(x)))
+}
+
+// From −β to β, where β is the square root of x·y, rounded up. x·y may not fit 64 bits: where it is beyond the limit's square, which a division
+// tells, β is beyond the limit.
+pub fn around_root(x: u64, y: u64) -> Range
+    ensures { λ r. ⌜ r ≡ aroundRoot x y ⌝ }
+{
+    if x == 0 {
+        return Range::ZERO;
+    }
+    if y == 0 {
+        return Range::ZERO;
+    }
+    if 4_000_000_000_000_000_000 / y < x {
+        return Range::OVER;
+    }
+    let b = root_up(x * y) as i64;
+    Range { low: -b, high: b }
+}
