@@ -69,10 +69,10 @@ module _ {R : Type 0} (𝓞 : OrderedRing R) where
   pub neg-nonneg : {a : R} → a ≤ 𝟘 → 𝟘 ≤ neg a
   neg-nonneg {a} h = le-eq (sub-nonneg h) (ring 𝓡 1 (λ a. :0 :- a := :- a) tt a)
 
-  -- ── products
   pub neg-nonpos : {a : R} → 𝟘 ≤ a → neg a ≤ 𝟘
   neg-nonpos {a} h = le-by h (ring 𝓡 1 (λ a. :0 :- :- a := a) tt a)
 
+  -- ── products
   pub mul-le-left : {c a b : R} → 𝟘 ≤ c → a ≤ b → c * a ≤ c * b
   mul-le-left {c} {a} {b} p h = le-by (mul-nonneg p (sub-nonneg h)) (ring 𝓡 3 (λ c a b. c :* b :- c :* a := c :* (b :- a)) tt c a b)
 

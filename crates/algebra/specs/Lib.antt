@@ -1,5 +1,5 @@
--- Commutative rings, ordered rings and vectors over them: the definitions. Their laws and the solvers `ring` and `linarith` are in proofs/.
+-- Commutative rings, ordered rings, sums and vectors over them: the definitions. Their laws and the solvers are in proofs/.
 pub mod Ring
 pub mod Ordered
-pub mod Vectors
 pub mod Sum
+pub mod Vectors

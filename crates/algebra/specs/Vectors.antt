@@ -1,14 +1,21 @@
--- Vectors as lists of coordinates, of which those past the end count as zero.
-use mathlib.Core.List.{List, [], _∷_}
+-- Vectors as functions of the index, of which the coordinates 0 to n − 1 count: inner products and quadratic forms.
+use mathlib.Core.Bool.{Bool, cond}
+use Prim.Native.Nat.{ℕ}
 use Rattle.algebra.specs.Ring.{CommRing}
+use Rattle.algebra.specs.Sum.{sum}
 
 module _ {R : Type 0} (𝓡 : CommRing R) where
-  infixl 65 _+_
   infixl 70 _*_
-  open CommRing 𝓡 using (add as _+_, mul as _*_, 𝟘)
+  open CommRing 𝓡 using (mul as _*_, 𝟘)
 
   -- the inner product u·v
-  unfoldable pub dot : List R → List R → R
-  dot [] v = 𝟘
-  dot (x ∷ u) [] = 𝟘
-  dot (x ∷ u) (y ∷ v) = x * y + dot u v
+  unfoldable pub dot : ℕ → (ℕ → R) → (ℕ → R) → R
+  dot n u v = sum 𝓡 n (λ a. u a * v a)
+
+  -- the quadratic form v'Hv: the sum of v_a·H_ab·v_b over all ordered pairs a, b
+  unfoldable pub form : ℕ → (ℕ → ℕ → R) → (ℕ → R) → R
+  form n H v = sum 𝓡 n (λ a. sum 𝓡 n (λ b. v a * H a b * v b))
+
+  -- v within the set B, and 0 outside
+  abbrev pub restricted : (ℕ → Bool) → (ℕ → R) → ℕ → R
+  restricted B v a = cond (B a) (v a) 𝟘

@@ -1,12 +1,12 @@
 -- The laws of rounded division.
 use mathlib.Core.Path.{_≡_, refl, sym, _∙_, ap}
 use mathlib.Core.Logic.{_↔_, _⊎_, inl, inr, ⊎-elim}
-use Prim.Native.Nat.{ℕ, zero, suc, _*_, _≤_, _<_}
+use Prim.Native.Nat.{ℕ, zero, suc, _*_, _<_}
 use native.Mathlib.Nat as N
 use lib.IntN.{ℤ, pos, negsuc, negℤ, _*ℤ_, zero-*ℤ}
 use lib.Signed.{_≤ℤ_, _<ℤ_, ≤ℤ-refl}
 use Rattle.algebra.proofs.Ordered as Ord
-use Rattle.exact.specs.Int.{ints, ℤ-ordered, mul-dif, pos-≤, pos-<, <-pos}
+use Rattle.exact.specs.Int.{ints, ℤ-ordered, mul-dif, <-pos}
 use Rattle.exact.specs.Int.{neg-≤, ≤-neg, *ℤ-neg, *ℤ-assoc, *ℤ-mono, *ℤ-cancel, neg-*ℤ, ≤ℤ-trans, ≡-below, ≤ℤ-or-<ℤ}
 unfoldable pub use Rattle.exact.specs.Div.{floorDiv, ceilDiv, floorQuot, ceilQuot}
 pub use Rattle.exact.specs.Div.{bySign, floor-le, floor-lt, floor-iff, ceil-iff}
@@ -64,11 +64,21 @@ module _ (q a : ℤ) where
       let i = ceil-iff q (negℤ a) (N.zero-lt-suc d) in
       rw (*ℤ-neg q (pos (suc d))) (λ h. neg-≤ (i .0 h), λ h. i .1 (neg-≤ h))
 
+quot-order : (a d : ℤ) → ¬ (d ≡ pos 0) → floorQuot a d ≤ℤ ceilQuot a d
+unfolding floorQuot ceilQuot
+quot-order a (pos zero) f = absurd (f refl)
+quot-order a (pos (suc k)) f = floor≤ceil a (N.zero-lt-suc k)
+quot-order a (negsuc k) f = floor≤ceil (negℤ a) (N.zero-lt-suc k)
+
 -- ════ a smaller divisor ════
+
+-- what lies between d and e is on one side of 0
+abbrev pub OneSign : ℤ → ℤ → Type 0
+OneSign d e = (pos 0 <ℤ d) ⊎ (e <ℤ pos 0)
 
 -- of a number that is not negative, the smaller of two divisors of one sign gives the greater quotient
 module _ {n d e : ℤ} (n-nonneg : pos 0 ≤ℤ n) (h : d ≤ℤ e) where
-  pub floorQuot-anti : (pos 0 <ℤ d) ⊎ (e <ℤ pos 0) → floorQuot n e ≤ℤ floorQuot n d
+  pub floorQuot-anti : OneSign d e → floorQuot n e ≤ℤ floorQuot n d
   floorQuot-anti (inl p) =
       let r : pos 0 <ℤ e = omega ints in
       let nonneg : pos 0 ≤ℤ floorQuot n e = floorQuot-pos (pos 0) n r .1 (rw (zero-*ℤ e) n-nonneg) in
@@ -83,7 +93,7 @@ module _ {n d e : ℤ} (n-nonneg : pos 0 ≤ℤ n) (h : d ≤ℤ e) where
           (λ k. let f = floorQuot-neg (pos 1) n p .0 (omega ints) in let g : ⊥ = omega (ints, mul-dif (pos 1) e) in absurd g)
           (≤ℤ-or-<ℤ (floorQuot n e) (pos 0))
 
-  pub ceilQuot-anti : (pos 0 <ℤ d) ⊎ (e <ℤ pos 0) → ceilQuot n e ≤ℤ ceilQuot n d
+  pub ceilQuot-anti : OneSign d e → ceilQuot n e ≤ℤ ceilQuot n d
   ceilQuot-anti (inl p) =
       let r : pos 0 <ℤ e = omega ints in
       ceilQuot-pos _ n r .1 (≤ℤ-trans (ceilQuot-pos _ n p .0 (≤ℤ-refl _)) (Ord.mul-le-left ℤ-ordered nonneg h))
@@ -98,14 +108,12 @@ module _ {n d e : ℤ} (n-nonneg : pos 0 ≤ℤ n) (h : d ≤ℤ e) where
       let nonpos : ceilQuot n d ≤ℤ pos 0 = ceilQuot-neg (pos 0) n r .1 (rw (zero-*ℤ d) n-nonneg) in
       ceilQuot-neg _ n p .1 (≤ℤ-trans (Ord.mul-le-left-neg ℤ-ordered nonpos h) (ceilQuot-neg _ n r .0 (≤ℤ-refl _)))
 
-module _ (n : ℕ) {d e : ℕ} (p : zero < d) (h : d ≤ e) where
-  pub floor-anti : floorDiv (pos n) e ≤ℤ floorDiv (pos n) d
-  unfolding floorQuot
-  floor-anti = floorQuot-anti {n = pos n} {d = pos d} {e = pos e} (omega ints) (pos-≤ h) (inl (pos-< p))
-
-  pub ceil-anti : ceilDiv (pos n) e ≤ℤ ceilDiv (pos n) d
-  unfolding ceilQuot
-  ceil-anti = ceilQuot-anti {n = pos n} {d = pos d} {e = pos e} (omega ints) (pos-≤ h) (inl (pos-< p))
+  pub floorQuot≤ceilQuot : OneSign d e → floorQuot n e ≤ℤ ceilQuot n d
+  floorQuot≤ceilQuot s = ≤ℤ-trans (floorQuot-anti s) (quot-order n d (nonzero s))
+    where
+      nonzero : OneSign d e → ¬ (d ≡ pos 0)
+      nonzero (inl p) z = omega ints
+      nonzero (inr p) z = omega ints
 
 -- all compute
 quotients : (floorDiv (pos 7) 2 ≡ pos 3) × (floorDiv (negsuc 6) 2 ≡ negsuc 3)

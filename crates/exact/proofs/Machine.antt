@@ -12,7 +12,7 @@ use lib.Signed.{leZ, ltZ, ltZ-no, mag, quotZ, _≤ℤ_, _<ℤ_}
 use mir.Syntax.{Width, w64}
 use mir.Val.{SFits, hbits, ofZ}
 use mir.ValLaws.{sfits-le}
-use Rattle.exact.specs.Int.{ints, posPart, negPart, ≤-out, ≤-in, <-out, <-in, neg-dif, leZ-no}
+use Rattle.exact.specs.Int.{ints, posPart, negPart, ≤-out, ≤-in, <-out, <-in, leZ-no}
 use Rattle.exact.proofs.Div.{floorDiv, ceilDiv}
 
 -- ---- tests, as code makes them
@@ -59,19 +59,6 @@ module _ (a b : ℤ) where
   ltZ-in h = <ℤ-ltZ (<-in h)
 
 pub ruleset tests = (ints, leZ-out, nleZ-out, ltZ-out, nltZ-out, leZ-in, ltZ-in)
-
-pub leZ-trans : (a b c : ℤ) → leZ a b ≡ true → leZ b c ≡ true → leZ a c ≡ true
-leZ-trans a b c h k = omega tests
-
-pub ltZ-leZ-trans : (a b c : ℤ) → ltZ a b ≡ true → leZ b c ≡ true → ltZ a c ≡ true
-ltZ-leZ-trans a b c h k = omega tests
-
-pub leZ-refl : (a : ℤ) → leZ a a ≡ true
-leZ-refl a = omega tests
-
--- a number that is not above one below 0 is above 0 when its sign changes
-pub below-neg : (a b : ℤ) → leZ a b ≡ true → ltZ b (pos 0) ≡ true → ltZ (pos 0) (negℤ a) ≡ true
-below-neg a b h k = omega (tests, neg-dif a)
 
 -- ---- what fits
 -- a number below 2 ^ 63 in magnitude

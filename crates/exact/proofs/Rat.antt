@@ -277,9 +277,6 @@ abbrev pub ℚ-ordered : OrderedRing ℚ
       nontrivial = 0≢1;
     }
 
-pub +ℚ-mono : {x y u v : ℚ} → x ≤ℚ y → u ≤ℚ v → x +ℚ u ≤ℚ y +ℚ v
-+ℚ-mono = Ord.add-mono ℚ-ordered
-
 pub negℚ-anti : {x y : ℚ} → x ≤ℚ y → negℚ y ≤ℚ negℚ x
 negℚ-anti = Ord.neg-anti ℚ-ordered
 
@@ -357,13 +354,6 @@ pub fromℤ-neg : (a : ℤ) → negℚ (fromℤ a) ≡ fromℤ (negℤ a)
 unfolding fromℤ negℚ
 fromℤ-neg a = refl
 
-pub fromℤ-≤ : (a b : ℤ) → (fromℤ a ≤ℚ fromℤ b) ↔ (a ≤ℤ b)
-unfolding fromℤ
-fromℤ-≤ a b = (
-  λ h. rw (*ℤ-one a, *ℤ-one b) at (≤-frac (whole a) (whole b) h),
-  λ h. ≤-mk {a = whole a} {b = whole b} (rw (*ℤ-one a, *ℤ-one b) h),
-)
-
 -- ════ division ════
 
 pub ÷-zero : (x : ℚ) → x ÷ 0ℚ ≡ none
@@ -406,9 +396,6 @@ ratio-÷ a (pos zero) {k} r = ap (λ t. ratio a k r ÷ t) (ratio-zero (pos 0) r 
 ratio-÷ a (pos (suc n)) r = ratio-by a a (pos (suc n)) (N.zero-lt-suc n) r (λ e. omega ints) refl
 ratio-÷ a (negsuc n) r =
     ratio-by a (negℤ a) (negsuc n) (N.zero-lt-suc n) r (λ e. omega ints) (ring ℤ-ring 2 (λ a d. :- a :* :- d := a :* d) tt a (pos (suc n)))
-
-pub fromℤ-÷ : (a d : ℤ) → fromℤ a ÷ fromℤ d ≡ quotient a d
-fromℤ-÷ a d = ap₂ _÷_ (fromℤ-is a) (fromℤ-is d) ∙ ratio-÷ a d (N.zero-lt-suc zero)
 
 -- ════ examples ════
 

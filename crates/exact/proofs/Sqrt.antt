@@ -35,9 +35,6 @@ floor-root n = bits n n (N.le-refl n)
 pub root-lt : {a b : ℕ} → a * a < b * b → a < b
 root-lt {a} {b} h = N.lt-of-not-le (λ k. omega (arith, N.mul-le-mul k k))
 
-pub floor-root-mono : {m n : ℕ} → m ≤ n → floorSqrt m ≤ floorSqrt n
-floor-root-mono {m} {n} h = N.le-of-suc-le-suc (root-lt (N.lt-of-le-of-lt (N.le-trans (floor-root m .low) h) (floor-root n .high)))
-
 pub ceil-root : (n : ℕ) → IsCeilSqrt n (ceilSqrt n)
 unfolding ceilSqrt
 ceil-root zero = record { high = omega arith; least = λ s h. zero-le }

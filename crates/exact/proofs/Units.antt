@@ -1,24 +1,25 @@
 -- Units: what the exact operations on them come to in integers, and that rounding to units is what specs/Units says of it.
 use mathlib.Core.Path.{_≡_, refl, sym, _∙_, ap}
-use mathlib.Core.Logic.{_↔_, _⊎_, inl, inr, ⊎-elim}
+use mathlib.Core.Logic.{_↔_, inl, inr, ⊎-elim}
 use mathlib.Core.Option.{some}
 use mathlib.Core.Quot.{ind}
 use mathlib.Core.HLevel.{×-prop, →-prop}
-use Prim.Native.Nat.{ℕ, zero, suc, _*_, _≤_, _<_}
+use Prim.Native.Nat.{ℕ, zero, suc, _*_, _<_}
 use native.Mathlib.Nat as N
 use lib.Dec.{lit<}
 use lib.IntN.{ℤ, pos, negsuc, negℤ, _+ℤ_, _*ℤ_, negℤ-negℤ}
 use lib.Signed.{_≤ℤ_, _<ℤ_, clashℤ}
 use Rattle.algebra.proofs.Ordered as Ord
 use Rattle.algebra.proofs.Solver.{_:*_, :-_, _:=_, ring}
-use Rattle.exact.specs.Int.{ints, mul-pos-dif, neg-dif, neg-≤, neg-*ℤ, ≤ℤ-of-≡, ≤ℤ-prop, ≡-below, ≡-above}
-use Rattle.exact.proofs.Div.{floorDiv, ceilDiv, bySign, floorQuot, ceilQuot, floor-iff, ceil-iff, floor-cancel, ceil-cancel}
-use Rattle.exact.proofs.Sqrt.{ceilSqrt, ceil-root}
+use Rattle.algebra.proofs.Sum.{sum}
+use Rattle.exact.specs.Int.{ints, ℤ-ring, mul-pos-dif, neg-dif, neg-≤, neg-*ℤ, *ℤ-mono, ≤ℤ-of-≡, ≤ℤ-prop, ≡-below, ≡-above}
+use Rattle.exact.proofs.Div.{floorDiv, ceilDiv, bySign, floorQuot, ceilQuot, floor-iff, ceil-iff, floor-mono, ceil-mono}
+use Rattle.exact.proofs.Div.{floor-cancel, ceil-cancel, OneSign}
 use Rattle.exact.specs.Frac.{whole}
 use Rattle.exact.proofs.Rat as Q
 use Rattle.exact.proofs.Rat.{ℚ, fromℤ, ratio, negℚ, _+ℚ_, _*ℚ_, _≤ℚ_, _<ℚ_, leQ, 0ℚ, 1ℚ, _÷_, ℚ-ring, ℚ-ordered, ≤-mk, ≤-frac}
 use Rattle.exact.proofs.Rat.{ratio-≤, ratio-≡, ratio-+same, ratio-*, ratio-neg, ratio-÷, ratio-times, quotient}
-use Rattle.exact.proofs.Rat.{fromℤ-is, fromℤ-neg, fromℤ-÷, negℚ-anti}
+use Rattle.exact.proofs.Rat.{fromℤ-is, fromℤ-neg, negℚ-anti}
 use Rattle.exact.specs.Units.{floorF-iff, floorℚ, ceilℚ}
 pub use Rattle.exact.specs.Units.{scale, scale-pos, In}
 unfoldable pub use Rattle.exact.specs.Units.{units, down, up}
@@ -47,22 +48,22 @@ scaleℚ-pos : 0ℚ <ℚ fromℤ (pos scale)
 unfolding fromℤ leQ
 scaleℚ-pos = record { lt = tt }
 
-units-times : (u : ℤ) → units u *ℚ fromℤ (pos scale) ≡ fromℤ u
+units-scale : (u : ℤ) → units u *ℚ fromℤ (pos scale) ≡ fromℤ u
 unfolding units
-units-times u = ratio-times u scale-pos
+units-scale u = ratio-times u scale-pos
 
 pub down-iff : (q : ℤ) (x : ℚ) → (q ≤ℤ down x) ↔ (units q ≤ℚ x)
 unfolding down
 down-iff q x = (
-  λ h. Q.*ℚ-cancel-≤ scaleℚ-pos (rw units-times (floorℚ-iff q _ .0 h)),
-  λ h. floorℚ-iff q _ .1 (rw units-times at (Q.*ℚ-monoʳ _ (Q.<ℚ→≤ℚ scaleℚ-pos) h)),
+  λ h. Q.*ℚ-cancel-≤ scaleℚ-pos (rw units-scale (floorℚ-iff q _ .0 h)),
+  λ h. floorℚ-iff q _ .1 (rw units-scale at (Q.*ℚ-monoʳ _ (Q.<ℚ→≤ℚ scaleℚ-pos) h)),
 )
 
 pub up-iff : (q : ℤ) (x : ℚ) → (up x ≤ℤ q) ↔ (x ≤ℚ units q)
 unfolding up
 up-iff q x = (
-  λ h. Q.*ℚ-cancel-≤ scaleℚ-pos (rw units-times (ceilℚ-iff q _ .0 h)),
-  λ h. ceilℚ-iff q _ .1 (rw units-times at (Q.*ℚ-monoʳ _ (Q.<ℚ→≤ℚ scaleℚ-pos) h)),
+  λ h. Q.*ℚ-cancel-≤ scaleℚ-pos (rw units-scale (ceilℚ-iff q _ .0 h)),
+  λ h. ceilℚ-iff q _ .1 (rw units-scale at (Q.*ℚ-monoʳ _ (Q.<ℚ→≤ℚ scaleℚ-pos) h)),
 )
 
 -- ---- the operations on units, in integers
@@ -89,16 +90,45 @@ pub units-1 : units (pos 10000) ≡ 1ℚ
 unfolding units
 units-1 = ratio-≡ (pos 10000) (pos 1) _ _ .1 refl ∙ sym (fromℤ-is (pos 1))
 
-pub units-nonneg : {a : ℤ} → pos 0 ≤ℤ a → 0ℚ ≤ℚ units a
-units-nonneg {a} h = rw units-0 at (units-≤ (pos 0) a .1 h)
+-- ---- order
+pub units-mono : {u v : ℤ} → u ≤ℤ v → units u ≤ℚ units v
+units-mono {u} {v} h = units-≤ u v .1 h
+
+pub units-nonneg : {u : ℤ} → pos 0 ≤ℤ u → 0ℚ ≤ℚ units u
+units-nonneg h = rw units-0 at (units-mono h)
+
+pub units-nonpos : {u : ℤ} → u ≤ℤ pos 0 → units u ≤ℚ 0ℚ
+units-nonpos h = rw units-0 at (units-mono h)
+
+pub nonneg-units : {u : ℤ} → 0ℚ ≤ℚ units u → pos 0 ≤ℤ u
+nonneg-units {u} h = units-≤ (pos 0) u .0 (rw units-0 h)
+
+pub nonpos-units : {u : ℤ} → units u ≤ℚ 0ℚ → u ≤ℤ pos 0
+nonpos-units {u} h = units-≤ u (pos 0) .0 (rw units-0 h)
 
 pub units-pos : {a : ℤ} → pos 0 <ℤ a → 0ℚ <ℚ units a
 units-pos {a} p = ⊎-elim (λ h. clashℤ p (units-≤ a (pos 0) .0 (rw units-0 h))) (λ h. h) (Q.≤ℚ-or-<ℚ (units a) 0ℚ)
 
--- k times a units
-pub units-num : (a : ℤ) (k : ℕ) → units (a *ℤ pos k) ≡ units a *ℚ fromℤ (pos k)
+-- a bound of the negated number
+pub neg-upper : (u : ℤ) {x : ℚ} → units u ≤ℚ x → negℚ x ≤ℚ units (negℤ u)
+neg-upper u h = rw (← (units-neg u)) (negℚ-anti h)
+
+pub neg-lower : (u : ℤ) {x : ℚ} → x ≤ℚ units u → units (negℤ u) ≤ℚ negℚ x
+neg-lower u h = rw (← (units-neg u)) (negℚ-anti h)
+
+-- ---- multiples, sums, products
+pub units-times : (k : ℕ) (u : ℤ) → units (pos k *ℤ u) ≡ fromℤ (pos k) *ℚ units u
 unfolding units
-units-num a k = sym (ap (λ z. units a *ℚ z) (fromℤ-is (pos k)) ∙ ratio-* a (pos k) _ _ ∙ ratio-≡ _ _ _ _ .1 refl)
+units-times k u = sym (ap (λ z. z *ℚ units u) (fromℤ-is (pos k)) ∙ ratio-* (pos k) u _ _ ∙ ratio-≡ _ _ _ _ .1 refl)
+
+pub sum-units : (n : ℕ) (f : ℕ → ℤ) → units (sum ℤ-ring n f) ≡ sum ℚ-ring n (λ a. units (f a))
+unfolding sum
+sum-units zero f = units-0
+sum-units (suc n) f = sym (units-+ (f n) (sum ℤ-ring n f)) ∙ ap (units (f n) +ℚ_) (sum-units n f)
+
+pub products-≤ : (u v w z : ℤ) → (u *ℤ v) ≤ℤ (w *ℤ z) → units u *ℚ units v ≤ℚ units w *ℚ units z
+unfolding units
+products-≤ u v w z h = rw (ratio-* u v, ratio-* w z) (ratio-≤ (u *ℤ v) (w *ℤ z) _ _ .1 (*ℤ-mono (scale * scale) h))
 
 -- a fraction, rounded to units
 pub down-ratio : (a : ℤ) {d : ℕ} (p : zero < d) → down (ratio a d p) ≡ floorDiv (a *ℤ pos scale) d
@@ -128,85 +158,40 @@ up-* u v =
     ap up (ratio-* u v scale-pos scale-pos) ∙ up-ratio (u *ℤ v) (N.mul-pos scale-pos scale-pos)
     ∙ ceil-cancel (u *ℤ v) scale-pos scale-pos
 
--- a quotient: of integers, rounded to an integer, and of units, rounded to units. By 0 there is no x
+-- what is at most u·v, divided by 10,000 and rounded down, is at most the product in units; likewise up
+pub floor-below : {z : ℤ} (u v : ℤ) → z ≤ℤ (u *ℤ v) → units (floorDiv z scale) ≤ℚ units u *ℚ units v
+floor-below {z} u v h = down-iff (floorDiv z scale) (units u *ℚ units v) .0 (rw (down-* u v) (floor-mono scale-pos h))
+
+pub ceil-above : {z : ℤ} (u v : ℤ) → (u *ℤ v) ≤ℤ z → units u *ℚ units v ≤ℚ units (ceilDiv z scale)
+ceil-above {z} u v h = up-iff (ceilDiv z scale) (units u *ℚ units v) .0 (rw (up-* u v) (ceil-mono scale-pos h))
+
+-- a quotient, rounded to units. By 0 there is no x
 pub units-÷ : (u v : ℤ) → units u ÷ units v ≡ quotient u v
 unfolding units
 units-÷ u v = ratio-÷ u v scale-pos
 
--- a rounding of quotients, from what it gives at fractions, where h is what it multiplies by
-rounds : (f : ℚ → ℤ) (div : ℤ → ℕ → ℤ) (h : ℤ → ℤ) → ((a : ℤ) → h (negℤ a) ≡ negℤ (h a))
-    → ((a : ℤ) (d : ℕ) (p : zero < d) → f (ratio a d p) ≡ div (h a) d)
-    → (a d : ℤ) {x : ℚ} → quotient a d ≡ some x → f x ≡ bySign div (h a) d
-rounds f div h m r a (pos zero) e = cc
-rounds f div h m r a (pos (suc n)) {x} e = let i : ratio a (suc n) (N.zero-lt-suc n) ≡ x = cc in ap f (sym i) ∙ r a (suc n) (N.zero-lt-suc n)
-rounds f div h m r a (negsuc n) {x} e =
+-- a rounding of quotients, from what it gives at fractions
+rounds : (f : ℚ → ℤ) (div : ℤ → ℕ → ℤ) → ((a : ℤ) (d : ℕ) (p : zero < d) → f (ratio a d p) ≡ div (a *ℤ pos scale) d)
+    → (a d : ℤ) {x : ℚ} → quotient a d ≡ some x → f x ≡ bySign div (a *ℤ pos scale) d
+rounds f div r a (pos zero) e = cc
+rounds f div r a (pos (suc n)) {x} e = let i : ratio a (suc n) (N.zero-lt-suc n) ≡ x = cc in ap f (sym i) ∙ r a (suc n) (N.zero-lt-suc n)
+rounds f div r a (negsuc n) {x} e =
     let i : ratio (negℤ a) (suc n) (N.zero-lt-suc n) ≡ x = cc in
-    ap f (sym i) ∙ r (negℤ a) (suc n) (N.zero-lt-suc n) ∙ ap (λ b. div b (suc n)) (m a)
+    ap f (sym i) ∙ r (negℤ a) (suc n) (N.zero-lt-suc n) ∙ ap (λ b. div b (suc n)) (neg-*ℤ a (pos scale))
 
 module _ (a d : ℤ) {x : ℚ} where
-  pub floor-÷ : fromℤ a ÷ fromℤ d ≡ some x → floorℚ x ≡ floorQuot a d
-  unfolding floorQuot floorℚ ratio
-  floor-÷ e = rounds floorℚ floorDiv (λ b. b) (λ b. refl) (λ b k p. refl) a d (sym (fromℤ-÷ a d) ∙ e)
-
-  pub ceil-÷ : fromℤ a ÷ fromℤ d ≡ some x → ceilℚ x ≡ ceilQuot a d
-  unfolding ceilQuot ceilDiv ceilℚ negℚ floorℚ ratio
-  ceil-÷ e = rounds ceilℚ ceilDiv (λ b. b) (λ b. refl) (λ b k p. refl) a d (sym (fromℤ-÷ a d) ∙ e)
-
   pub down-÷ : units a ÷ units d ≡ some x → down x ≡ floorQuot (a *ℤ pos scale) d
   unfolding floorQuot
-  down-÷ e = rounds down floorDiv (λ b. b *ℤ pos scale) (λ b. neg-*ℤ b (pos scale)) (λ b k p. down-ratio b p) a d (sym (units-÷ a d) ∙ e)
+  down-÷ e = rounds down floorDiv (λ b k p. down-ratio b p) a d (sym (units-÷ a d) ∙ e)
 
   pub up-÷ : units a ÷ units d ≡ some x → up x ≡ ceilQuot (a *ℤ pos scale) d
   unfolding ceilQuot
-  up-÷ e = rounds up ceilDiv (λ b. b *ℤ pos scale) (λ b. neg-*ℤ b (pos scale)) (λ b k p. up-ratio b p) a d (sym (units-÷ a d) ∙ e)
-
--- a root: the square of r units is at least n units exactly where r * r is at least 10000 n
-pub units-root : (n r : ℕ) → (units (pos n) ≤ℚ units (pos r) *ℚ units (pos r)) ↔ (n * scale ≤ r * r)
-unfolding units
-units-root n r = (
-  λ h. let k = cross .0 (rw square at h) in omega ints,
-  λ h. rw square (cross .1 (omega ints)),
-)
-  where
-    square : units (pos r) *ℚ units (pos r) ≡ ratio (pos (r * r)) (scale * scale) (N.mul-pos scale-pos scale-pos)
-    square = ratio-* (pos r) (pos r) scale-pos scale-pos
-
-    cross : (units (pos n) ≤ℚ ratio (pos (r * r)) (scale * scale) (N.mul-pos scale-pos scale-pos))
-        ↔ ((pos n *ℤ pos (scale * scale)) ≤ℤ (pos (r * r) *ℤ pos scale))
-    cross = ratio-≤ (pos n) (pos (r * r)) scale-pos (N.mul-pos scale-pos scale-pos)
-
-pub root-up : (n : ℕ) → units (pos n) ≤ℚ units (pos (ceilSqrt (n * scale))) *ℚ units (pos (ceilSqrt (n * scale)))
-root-up n = units-root n (ceilSqrt (n * scale)) .1 (ceil-root (n * scale) .high)
-
-pub root-least : (n r : ℕ) → units (pos n) ≤ℚ units (pos r) *ℚ units (pos r) → ceilSqrt (n * scale) ≤ r
-root-least n r h = ceil-root (n * scale) .least r (units-root n r .0 h)
+  up-÷ e = rounds up ceilDiv (λ b k p. up-ratio b p) a d (sym (units-÷ a d) ∙ e)
 
 -- ════ ranges of units, rounded outward ════
 
-pub in-+ : {a b c d : ℤ} {x y : ℚ} → In a b x → In c d y → In (a +ℤ c) (b +ℤ d) (x +ℚ y)
-in-+ {a} {b} {c} {d} i j = record {
-  low = rw (← (units-+ a c)) (Q.+ℚ-mono (i .low) (j .low));
-  high = rw (← (units-+ b d)) (Q.+ℚ-mono (i .high) (j .high));
-}
-
 pub in-neg : {a b : ℤ} {x : ℚ} → In a b x → In (negℤ b) (negℤ a) (negℚ x)
-in-neg {a} {b} i = record { low = rw (← (units-neg b)) (negℚ-anti (i .high)); high = rw (← (units-neg a)) (negℚ-anti (i .low)) }
-
--- a product lies in any range whose ends are outside the four products of the ends, each rounded outward
-pub in-* : {a b c d l h : ℤ} {x y : ℚ} → In a b x → In c d y
-    → l ≤ℤ floorDiv (a *ℤ c) scale → l ≤ℤ floorDiv (a *ℤ d) scale → l ≤ℤ floorDiv (b *ℤ c) scale → l ≤ℤ floorDiv (b *ℤ d) scale
-    → ceilDiv (a *ℤ c) scale ≤ℤ h → ceilDiv (a *ℤ d) scale ≤ℤ h → ceilDiv (b *ℤ c) scale ≤ℤ h → ceilDiv (b *ℤ d) scale ≤ℤ h
-    → In l h (x *ℚ y)
-in-* {a} {b} {c} {d} {l} {h} i j p q r s t u v w = record {
-  low = Ord.product-lower ℚ-ordered (i .low) (i .high) (j .low) (j .high) (below a c p) (below a d q) (below b c r) (below b d s);
-  high = Ord.product-upper ℚ-ordered (i .low) (i .high) (j .low) (j .high) (above a c t) (above a d u) (above b c v) (above b d w);
-}
-  where
-    below : (m n : ℤ) → l ≤ℤ floorDiv (m *ℤ n) scale → units l ≤ℚ units m *ℚ units n
-    below m n k = down-iff l (units m *ℚ units n) .0 (rw down-* k)
-
-    above : (m n : ℤ) → ceilDiv (m *ℤ n) scale ≤ℤ h → units m *ℚ units n ≤ℚ units h
-    above m n k = up-iff h (units m *ℚ units n) .0 (rw up-* k)
+in-neg {a} {b} i = record { low = neg-lower b (i .high); high = neg-upper a (i .low) }
 
 -- the reciprocal of c units, and its roundings
 units-recip : (c : ℤ) → ¬ (units c ≡ 0ℚ)
@@ -221,21 +206,21 @@ units-recip c f =
 positive : {a b : ℤ} {x : ℚ} → pos 0 <ℤ a → In a b x → Ord.lt ℚ-ordered 0ℚ x
 positive p i h = Q.≤ℚ-not-< h (Q.<ℚ-≤ℚ-trans (units-pos p) (i .low))
 
-one-sign : {a b : ℤ} {x y : ℚ} → (pos 0 <ℤ a) ⊎ (b <ℤ pos 0) → In a b x → In a b y → 0ℚ <ℚ x *ℚ y
-one-sign (inl p) i j = Q.not≤ (Ord.mul-pos ℚ-ordered (positive p i) (positive p j))
-one-sign {b = b} {x = x} {y = y} (inr p) i j =
+same-sign : {a b : ℤ} {x y : ℚ} → OneSign a b → In a b x → In a b y → 0ℚ <ℚ x *ℚ y
+same-sign (inl p) i j = Q.not≤ (Ord.mul-pos ℚ-ordered (positive p i) (positive p j))
+same-sign {b = b} {x = x} {y = y} (inr p) i j =
     let q : pos 0 <ℤ negℤ b = omega (ints, neg-dif b) in
     rw (ring ℚ-ring 2 (λ x y. x :* y := :- x :* :- y) tt x y)
     (Q.not≤ (Ord.mul-pos ℚ-ordered (positive q (in-neg i)) (positive q (in-neg j))))
 
 -- a reciprocal lies between those of the ends, if these have one sign: 100,000,000 divided by the other end, rounded outward
-pub in-recip : {a b : ℤ} {x y : ℚ} → (pos 0 <ℤ a) ⊎ (b <ℤ pos 0) → In a b x → x *ℚ y ≡ 1ℚ
+pub in-recip : {a b : ℤ} {x y : ℚ} → OneSign a b → In a b x → x *ℚ y ≡ 1ℚ
     → In (floorQuot (pos 100000000) b) (ceilQuot (pos 100000000) a) y
 in-recip {a} {b} s i e = record {
   low = let r = units-recip b (nonzero last) in
-      Q.≤ℚ-trans (down-iff _ (r .0) .0 (≤ℤ-of-≡ (sym (r .2)))) (Q.recip-anti (one-sign s i last) (i .high) e (r .1));
+      Q.≤ℚ-trans (down-iff _ (r .0) .0 (≤ℤ-of-≡ (sym (r .2)))) (Q.recip-anti (same-sign s i last) (i .high) e (r .1));
   high = let r = units-recip a (nonzero first) in
-      Q.≤ℚ-trans (Q.recip-anti (one-sign s first i) (i .low) (r .1) e) (up-iff _ (r .0) .0 (≤ℤ-of-≡ (r .3)));
+      Q.≤ℚ-trans (Q.recip-anti (same-sign s first i) (i .low) (r .1) e) (up-iff _ (r .0) .0 (≤ℤ-of-≡ (r .3)));
 }
   where
     first : In a b (units a)
@@ -245,7 +230,7 @@ in-recip {a} {b} s i e = record {
     last = record { low = Q.≤ℚ-trans (i .low) (i .high); high = Q.≤ℚ-refl (units b) }
 
     nonzero : {z : ℚ} → In a b z → ¬ (z ≡ 0ℚ)
-    nonzero {z} k f = Q.≤ℚ-not-< (Q.≤ℚ-of-≡ (ap (λ t. t *ℚ z) f ∙ Q.zero-*ℚ z)) (one-sign s k k)
+    nonzero {z} k f = Q.≤ℚ-not-< (Q.≤ℚ-of-≡ (ap (λ t. t *ℚ z) f ∙ Q.zero-*ℚ z)) (same-sign s k k)
 
 -- closed terms compute: 1.5 * (−0.3333) and 2 / 3, both ways
 rounded : (down (units (pos 15000) *ℚ units (negsuc 3332)) ≡ negsuc 4999) × (up (units (pos 15000) *ℚ units (negsuc 3332)) ≡ negsuc 4998)

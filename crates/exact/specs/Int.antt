@@ -229,9 +229,6 @@ pos-≤ h = omega ints
 pub ≤-pos : {m n : ℕ} → pos m ≤ℤ pos n → m ≤ n
 ≤-pos h = omega ints
 
-pub pos-< : {m n : ℕ} → m < n → pos m <ℤ pos n
-pos-< h = omega ints
-
 pub <-pos : {m n : ℕ} → pos m <ℤ pos n → m < n
 <-pos h = omega ints
 
@@ -251,6 +248,12 @@ neg-≤ {a} {b} h = omega (ints, neg-dif a, neg-dif b)
 
 pub ≤-neg : {a b : ℤ} → a ≤ℤ negℤ b → b ≤ℤ negℤ a
 ≤-neg {a} {b} h = omega (ints, neg-dif a, neg-dif b)
+
+pub neg-nonneg : {a : ℤ} → a ≤ℤ pos 0 → pos 0 ≤ℤ negℤ a
+neg-nonneg {a} h = omega (ints, neg-dif a)
+
+pub neg-nonpos : {a : ℤ} → pos 0 ≤ℤ a → negℤ a ≤ℤ pos 0
+neg-nonpos {a} h = omega (ints, neg-dif a)
 
 pub <suc→≤ℤ : {a b : ℤ} → a <ℤ (b +ℤ pos 1) → a ≤ℤ b
 <suc→≤ℤ {a} {b} h = omega (ints, add-dif b (pos 1), <-out h)
@@ -301,6 +304,11 @@ mul-abs (pos a) (pos b) = refl
 mul-abs (pos a) (negsuc b) = neg-abs (pos (a * suc b))
 mul-abs (negsuc a) (pos b) = neg-abs (pos (suc a * b))
 mul-abs (negsuc a) (negsuc b) = refl
+
+pub natAbs-mono : {x y : ℤ} → pos 0 ≤ℤ x → x ≤ℤ y → natAbs x ≤ natAbs y
+natAbs-mono {x = pos a} {y = pos b} p h = ≤-pos h
+natAbs-mono {x = pos a} {y = negsuc b} p h = absurd (h .le)
+natAbs-mono {x = negsuc a} p h = absurd (p .le)
 
 pub zero-abs : (x : ℤ) → natAbs x ≡ 0 → x ≡ pos 0
 zero-abs (pos n) e = ap pos e

@@ -3,7 +3,6 @@ use mathlib.Core.Path.{_≡_}
 use mathlib.Core.Bool.{Bool, not, cond}
 use Prim.Native.Nat.{ℕ}
 use lib.Dec.{T}
-use lib.IntN.{_*ℤ_}
 use Rattle.algebra.proofs.Ordered as Ord
 use Rattle.exact.proofs.Rat.{ℚ, _+ℚ_, _*ℚ_, negℚ, _≤ℚ_, 0ℚ, 1ℚ}
 use Rattle.exact.proofs.Units.{units, units-+, units-neg}
@@ -12,8 +11,8 @@ use Rattle.range.specs.declared.Range.{Range}
 use Rattle.range.specs.Limit.{zeroRange, over, isValid, kept, sticky₁, sticky₂}
 use Rattle.range.specs.Arithmetic.{endsSum, sumOf, endsNeg, negOf, endsTimes, timesOf, endsProduct, productOf, endsHull, hullOf}
 use Rattle.range.specs.Inclusion.{_∈_, num}
-use Rattle.range.proofs.Extremes.{lesser-left, lesser-right, greater-left, greater-right, extremes}
-use Rattle.range.proofs.Units.{units-0, units-mono, units-times, floor-below, ceil-above}
+use Rattle.range.proofs.Extremes.{lesser-left, lesser-right, greater-left, greater-right, end-products}
+use Rattle.exact.proofs.Units.{units-0, units-mono, units-times, floor-below, ceil-above}
 use Rattle.range.proofs.Holds.{Between, if-holds, either-holds, kept-holds, sticky₁-holds, sticky₂-holds}
 use Rattle.range.proofs.Scaled as S
 use Rattle.range.proofs.Scaled.{Scaled}
@@ -93,7 +92,7 @@ times-bounded {a = a} k h =
 pub product-scaled : (a b : Range) {s x y : ℚ} → 0ℚ ≤ℚ s → Between x a → ScaledEnds s y b → ScaledEnds s (x *ℚ y) (endsProduct a b)
 unfolding endsProduct
 product-scaled a b p i w =
-    let e = extremes (a .low *ℤ b .low) (a .low *ℤ b .high) (a .high *ℤ b .low) (a .high *ℤ b .high) in
+    let e = end-products a b in
     S.scaled-product ℚ-ordered p (i .low) (i .high) w
     (floor-below (a .low) (b .low) (e .low-1))
     (floor-below (a .low) (b .high) (e .low-2))

@@ -1,22 +1,24 @@
--- The power of a range of magnitudes by repeated products: the code's way gives 01's D and U, with every U on the way counted. Assumes nothing.
+-- Powers as the code computes them: repeated products of a range of magnitudes give 01's D and U, with every U on the way counted, and each
+-- row of 01's table comes from such a power. Assumes nothing.
 use mathlib.Core.Path.{_≡_, refl, sym, ap, ap₂, _∙_}
 use mathlib.Core.Bool.{Bool, true, false, _&&_, cond}
 use Prim.Native.Nat.{ℕ, zero, suc, _+_, _≤_}
 use native.Mathlib.Omega.{arith}
 use native.Mathlib.Numerals.{add-one}
 use lib.Dec.{T}
-use lib.IntN.{ℤ, pos, negsuc, negℤ, _*ℤ_}
+use lib.IntN.{ℤ, pos, negℤ, _*ℤ_}
 use lib.Signed.{leZ, _≤ℤ_, _<ℤ_, leZ-yes, ≤ℤ-refl}
 use Rattle.algebra.proofs.Ordered as Ord
-use Rattle.exact.specs.Int.{ints, ℤ-ordered, neg-dif, leZ-no, ≤ℤ-trans, ≤ℤ-antisym}
+use Rattle.exact.specs.Int.{ints, ℤ-ordered, neg-dif, neg-nonneg, leZ-no, <ℤ→≤ℤ, ≤ℤ-trans, ≤ℤ-antisym}
 use Rattle.exact.proofs.Div.{floorDiv, ceilDiv}
 use Rattle.range.specs.declared.Range.{Range}
 use Rattle.range.specs.Limit.{fromTo, least, most, over, isValid, bothValid, kept, sticky₂}
-use Rattle.range.specs.Arithmetic.{lesserOf, greaterOf, endsNeg, negOf, leastProduct, greatestProduct, endsProduct, productOf, hullOf}
+use Rattle.range.specs.Arithmetic.{lesserOf, greaterOf, endsNeg, negOf, leastProduct}
+use Rattle.range.specs.Arithmetic.{greatestProduct, endsProduct, productOf, endsHull, hullOf}
 use Rattle.range.specs.Power.{chain, D, U, upsWithin, isEven, powAbove, powBelow, powAcrossEven, powAcrossOdd}
-use Rattle.range.specs.Steps.{upTo}
-use Rattle.range.proofs.Valid.{T-true, true-T, false-T, not-true, and-left, and-right, and-both, ends-of, valid-of, over-invalid, if-passed, both-left, both-valid, kept-is}
-use Rattle.range.proofs.Extremes.{extremes, least-any, greatest-any, greater-left, greater-any}
+use Rattle.range.specs.Steps.{upTo, Magnitudes}
+use Rattle.range.proofs.Valid.{T-true, true-T, false-T, not-true, ends-of, valid-of, over-invalid, if-passed, both-valid}
+use Rattle.range.proofs.Extremes.{end-products, least-product, greatest-product, greater-left, greater-any}
 use Rattle.range.proofs.Powers.{chain-low, chain-high, down-up, up-up, D-zero, ups-last}
 use Rattle.range.proofs.Fitting.{neg-valid, negOf-is, negOf-over, hullOf-is, hullOf-over, over-hullOf}
 
@@ -34,23 +36,23 @@ module _ (a b : Range) (p : pos 0 ≤ℤ a .low) (o : a .low ≤ℤ a .high) (q 
 
       low : leastProduct a b ≡ a .low *ℤ b .low
       low =
-          let ll = a .low *ℤ b .low in
-          let lh = a .low *ℤ b .high in
-          let hl = a .high *ℤ b .low in
-          let hh = a .high *ℤ b .high in
           ≤ℤ-antisym
-          (extremes ll lh hl hh .low-1)
-          (least-any ll lh hl hh (λ z. ll ≤ℤ z) (≤ℤ-refl ll) (Ord.mul-mono ℤ-ordered p (≤ℤ-refl _) q w) (Ord.mul-mono ℤ-ordered p o q (≤ℤ-refl _)) (Ord.mul-mono ℤ-ordered p o q w))
+          (end-products a b .low-1)
+          (least-product a b (λ z. (a .low *ℤ b .low) ≤ℤ z)
+          (≤ℤ-refl _)
+          (Ord.mul-mono ℤ-ordered p (≤ℤ-refl _) q w)
+          (Ord.mul-mono ℤ-ordered p o q (≤ℤ-refl _))
+          (Ord.mul-mono ℤ-ordered p o q w))
 
       high : greatestProduct a b ≡ a .high *ℤ b .high
       high =
-          let ll = a .low *ℤ b .low in
-          let lh = a .low *ℤ b .high in
-          let hl = a .high *ℤ b .low in
-          let hh = a .high *ℤ b .high in
           ≤ℤ-antisym
-          (greatest-any ll lh hl hh (λ z. z ≤ℤ hh) (Ord.mul-mono ℤ-ordered p o q w) (Ord.mul-mono ℤ-ordered p o q′ (≤ℤ-refl _)) (Ord.mul-mono ℤ-ordered p′ (≤ℤ-refl _) q w) (≤ℤ-refl hh))
-          (extremes ll lh hl hh .high-4)
+          (greatest-product a b (λ z. z ≤ℤ (a .high *ℤ b .high))
+          (Ord.mul-mono ℤ-ordered p o q w)
+          (Ord.mul-mono ℤ-ordered p o q′ (≤ℤ-refl _))
+          (Ord.mul-mono ℤ-ordered p′ (≤ℤ-refl _) q w)
+          (≤ℤ-refl _))
+          (end-products a b .high-4)
 
 -- where r is the power k of the magnitudes m, on the way to the power e
 pub record Climbed (m : Range) (e : ℕ) (r : Range) (k : ℕ) : Type 0 where
@@ -143,7 +145,7 @@ module _ (z : ℤ) (p : pos 0 ≤ℤ z) (q : z ≤ℤ most) where
 -- the magnitudes of a range that is not above 0, and on either side of 0
 module _ (a : Range) where
   pub neg-above : leZ (a .high) (pos 0) ≡ true → leZ (pos 0) (negℤ (a .high)) ≡ true
-  neg-above s = let l : a .high ≤ℤ pos 0 = leZ-yes (true-T s) in let o : pos 0 ≤ℤ negℤ (a .high) = omega (ints, neg-dif (a .high)) in T-true (o .le)
+  neg-above s = T-true (neg-nonneg {a = a .high} (leZ-yes (true-T s)) .le)
 
   module _ (v : isValid a ≡ true) where
     low-few : negℤ (a .low) ≤ℤ most
@@ -156,13 +158,24 @@ module _ (a : Range) where
     high-magnitude s = let l : pos 0 <ℤ a .high = leZ-no (false-T s) in upTo-valid (a .high) (omega ints) (ends-of a (true-T v) .below)
 
     across-low : leZ (pos 0) (a .low) ≡ false → pos 0 ≤ℤ greaterOf (negℤ (a .low)) (a .high)
-    across-low s = let l : a .low <ℤ pos 0 = leZ-no (false-T s) in let g = greater-left (negℤ (a .low)) (a .high) in omega (ints, neg-dif (a .low))
+    across-low s = ≤ℤ-trans (neg-nonneg {a = a .low} (<ℤ→≤ℤ (leZ-no (false-T s)))) (greater-left (negℤ (a .low)) (a .high))
 
     across-high : greaterOf (negℤ (a .low)) (a .high) ≤ℤ most
     across-high = greater-any (negℤ (a .low)) (a .high) (λ z. z ≤ℤ most) low-few (ends-of a (true-T v) .below)
 
     pub across-magnitude : leZ (pos 0) (a .low) ≡ false → isValid (upTo (greaterOf (negℤ (a .low)) (a .high))) ≡ true
     across-magnitude s = upTo-valid (greaterOf (negℤ (a .low)) (a .high)) (across-low s) across-high
+
+-- what the code makes: magnitudes below 0, and the farther of the two sides
+pub magnitudes : {r m : Range} {e : ℕ} → r ≡ m → isValid m ≡ true → leZ (pos 0) (m .low) ≡ true → 1 ≤ e → Magnitudes r e
+magnitudes p v s h = record { valid = ap isValid p ∙ v; sign = ap (λ (r : Range). leZ (pos 0) (r .low)) p ∙ s; some = h }
+
+module _ (a : Range) {n x : Range} (p : n ≡ endsNeg a) (q : x ≡ upTo (n .high)) where
+  pub low-made : x ≡ upTo (negℤ (a .low))
+  low-made = q ∙ ap (λ (r : Range). upTo (r .high)) p
+
+  pub farther-made : {y h : Range} → y ≡ upTo (a .high) → h ≡ endsHull x y → h ≡ upTo (greaterOf (negℤ (a .low)) (a .high))
+  farther-made r s = s ∙ ap₂ endsHull low-made r
 
 -- the hull of [−x, 0] and [0, y]
 split-hull : (x y : ℤ) → pos 0 ≤ℤ x → x ≤ℤ most → pos 0 ≤ℤ y → y ≤ℤ most → hullOf (negOf (upTo x)) (upTo y) ≡ fromTo (negℤ x) y
@@ -184,7 +197,8 @@ module _ (a : Range) (v : isValid a ≡ true) (e : ℕ) (h : 1 ≤ e) where
   below-even t p = p ∙ rw t
 
   -- the powers of valid magnitudes are a range where every U counts
-  counted : (m : Range) → isValid m ≡ true → leZ (pos 0) (m .low) ≡ true → (e : ℕ) → 1 ≤ e → T (upsWithin (m .high) e) → isValid (fromTo (D (m .low) e) (U (m .high) e)) ≡ true
+  counted : (m : Range) → isValid m ≡ true → leZ (pos 0) (m .low) ≡ true → (e : ℕ) → 1 ≤ e → T (upsWithin (m .high) e)
+      → isValid (fromTo (D (m .low) e) (U (m .high) e)) ≡ true
   counted m w s zero h t = let f : ⊥ = omega arith in absurd f
   counted m w s (suc e) h t = power-ends m w s (suc e) ∙ T-true (ups-last (m .high) e t .le)
 
@@ -192,14 +206,15 @@ module _ (a : Range) (v : isValid a ≡ true) (e : ℕ) (h : 1 ≤ e) where
   unfolding powAbove powBelow
   below-odd {z} s t p = p ∙ go (upsWithin (negℤ (a .low)) e) refl
     where
-      go : (b : Bool) → upsWithin (negℤ (a .low)) e ≡ b → negOf (cond b (fromTo (D (negℤ (a .high)) e) (U (negℤ (a .low)) e)) over) ≡ cond b (cond (isEven e) (fromTo (D (negℤ (a .high)) e) (U (negℤ (a .low)) e)) (fromTo (negℤ (U (negℤ (a .low)) e)) (negℤ (D (negℤ (a .high)) e)))) over
-      go true x =
-          let n = neg-valid a v in
-          let w = counted (endsNeg a) n (neg-above a s) e h (true-T x) in
-          rw t (negOf-is (fromTo (D (negℤ (a .high)) e) (U (negℤ (a .low)) e)) w)
+      ends : Range
+      ends = fromTo (D (negℤ (a .high)) e) (U (negℤ (a .low)) e)
+
+      go : (b : Bool) → upsWithin (negℤ (a .low)) e ≡ b → negOf (cond b ends over) ≡ cond b (cond (isEven e) ends (endsNeg ends)) over
+      go true x = rw t (negOf-is ends (counted (endsNeg a) (neg-valid a v) (neg-above a s) e h (true-T x)))
       go false x = negOf-over
 
-  pub across-even : {z : Range} → leZ (pos 0) (a .low) ≡ false → z ≡ powAbove (upTo (greaterOf (negℤ (a .low)) (a .high))) e → z ≡ powAcrossEven a e
+  pub across-even : {z : Range} → leZ (pos 0) (a .low) ≡ false → z ≡ powAbove (upTo (greaterOf (negℤ (a .low)) (a .high))) e
+      → z ≡ powAcrossEven a e
   unfolding powAcrossEven
   across-even s p = p ∙ upTo-power (greaterOf (negℤ (a .low)) (a .high)) (across-low a v s) (across-high a v) e h
 
@@ -223,7 +238,8 @@ module _ (a : Range) (v : isValid a ≡ true) (e : ℕ) (h : 1 ≤ e) where
       upTo-U z p q zero h t = let f : ⊥ = omega arith in absurd f
       upTo-U z p q (suc e) h t = (chain-low up-up p (≤ℤ-refl z) (suc e), ups-last z e t)
 
-      go : (b c : Bool) → (T b → (pos 0 ≤ℤ U (negℤ (a .low)) e) × (U (negℤ (a .low)) e ≤ℤ most)) → (T c → (pos 0 ≤ℤ U (a .high) e) × (U (a .high) e ≤ℤ most))
+      go : (b c : Bool) → (T b → (pos 0 ≤ℤ U (negℤ (a .low)) e) × (U (negℤ (a .low)) e ≤ℤ most))
+          → (T c → (pos 0 ≤ℤ U (a .high) e) × (U (a .high) e ≤ℤ most))
           → hullOf (negOf (cond b (upTo (U (negℤ (a .low)) e)) over)) (cond c (upTo (U (a .high) e)) over)
           ≡ cond (b && c) (fromTo (negℤ (U (negℤ (a .low)) e)) (U (a .high) e)) over
       go true true f g = split-hull _ _ (f tt .0) (f tt .1) (g tt .0) (g tt .1)

@@ -1,6 +1,6 @@
 -- Every result is valid or `over`: `closure`. Assumes nothing.
 use mathlib.Core.Path.{refl}
-use mathlib.Core.Bool.{Bool, true, false, _&&_, cond}
+use mathlib.Core.Bool.{_&&_}
 use mathlib.Core.Logic.{inl, inr}
 use Prim.Native.Nat.{ℕ, zero, suc, zero-le}
 use lib.Dec.{T}
@@ -8,14 +8,17 @@ use lib.IntN.{ℤ, pos, _-ℤ_}
 use lib.Signed.{_≤ℤ_}
 use Rattle.exact.specs.Int.{ints, posPart, negPart, sub-dif, pos-≤}
 use Rattle.range.specs.declared.Range.{Range}
-use Rattle.range.specs.Limit.{fromTo, most, over, isValid, sticky₁}
-use Rattle.range.specs.Arithmetic.{endsSum, endsNeg, endsTimes, endsProduct, endsInverse, endsHull, holdsZero, sumOf, negOf, timesOf, productOf, inverseOf, hullOf}
+use Rattle.range.specs.Limit.{fromTo, most, isValid}
+use Rattle.range.specs.Arithmetic.{endsSum, endsNeg, endsTimes, endsProduct, endsInverse, endsHull}
+use Rattle.range.specs.Arithmetic.{holdsZero, sumOf, negOf, timesOf, productOf, inverseOf, hullOf}
 use Rattle.range.specs.Power.{D, U, upsWithin, isEven, powOf}
 use Rattle.range.specs.Sums.{validOver, productsOf, squaresOf, rootOf}
 use Rattle.range.specs.Laws.{Settled, Closure}
-use Rattle.range.proofs.Valid.{T-true, and-left, and-right, Ends, ends-of, valid-of, if-settled, kept-settled, sticky₁-settled, sticky₂-settled}
+use Rattle.range.proofs.Valid.{T-true, and-left, and-right, by-test, Ends, ends-of, valid-of}
+use Rattle.range.proofs.Valid.{if-settled, kept-settled, sticky₁-settled, sticky₂-settled}
 use Rattle.range.proofs.Powers.{chain-low, chain-high, down-up, ups-last}
-use Rattle.range.proofs.PowerForms.{aboveZero, belowZero, farthest, endsEven, powEven, endsOdd, oddWithin, powOdd, powOfValid, pow-form, above-mono, below-anti, nearest-farthest}
+use Rattle.range.proofs.PowerForms.{aboveZero, belowZero, farthest, endsEven, powEven, endsOdd, oddWithin}
+use Rattle.range.proofs.PowerForms.{powOdd, powOfValid, pow-form, above-mono, below-anti, nearest-farthest}
 
 -- ---- powers
 -- of magnitudes m ≤ n of which n's powers count
@@ -26,7 +29,8 @@ record Magnitudes (m n : ℤ) (e : ℕ) : Type 0 where
 
 magnitudes : (k : ℕ) {n : ℤ} (e : ℕ) → pos k ≤ℤ n → T (upsWithin n (suc e)) → Magnitudes (pos k) n (suc e)
 magnitudes k {n} e h t =
-    record { low = chain-low down-up (pos-≤ zero-le) h (suc e); order = chain-high down-up (pos-≤ zero-le) h (suc e); high = ups-last n e t }
+    let p : pos 0 ≤ℤ pos k = pos-≤ zero-le in
+    record { low = chain-low down-up p h (suc e); order = chain-high down-up p h (suc e); high = ups-last n e t }
 
 -- what lies above zero less what lies below
 difference : {m n k l : ℤ} {e : ℕ} → Magnitudes m n e → Magnitudes k l e → Ends (fromTo (D m e -ℤ U l e) (U n e -ℤ D k e))
@@ -58,11 +62,7 @@ module _ (r : Range) (o : r .low ≤ℤ r .high) (e : ℕ) where
 valid-settled : (r : Range) → r .low ≤ℤ r .high → (e : ℕ) → Settled (powOfValid r e)
 unfolding isValid
 valid-settled r o zero = inl refl
-valid-settled r o (suc e) = rw (pow-form r o e) (go (isEven (suc e)))
-  where
-    go : (c : Bool) → Settled (cond c (powEven r (suc e)) (powOdd r (suc e)))
-    go true = even-settled r o e
-    go false = odd-settled r o e
+valid-settled r o (suc e) = rw (pow-form r o e) (by-test Settled (isEven (suc e)) (λ t. even-settled r o e) (λ t. odd-settled r o e))
 
 power-settled : (r : Range) (e : ℕ) → Settled (powOf r e)
 unfolding powOf
@@ -70,11 +70,7 @@ power-settled r e = if-settled (isValid r) (λ t. valid-settled r (ends-of r t .
 
 inverse-settled : (a : Range) → Settled (inverseOf a)
 unfolding inverseOf
-inverse-settled a = go (holdsZero a)
-  where
-    go : (c : Bool) → Settled (cond c over (sticky₁ endsInverse a))
-    go true = inr refl
-    go false = sticky₁-settled endsInverse a
+inverse-settled a = by-test Settled (holdsZero a) (λ t. inr refl) (λ t. sticky₁-settled endsInverse a)
 
 pub closure : Closure
 unfolding sumOf negOf timesOf productOf hullOf productsOf squaresOf rootOf

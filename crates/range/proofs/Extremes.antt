@@ -1,54 +1,30 @@
 -- The lesser and the greater of two numbers and of four. Assumes nothing.
-use mathlib.Core.Bool.{Bool, true, false, not, cond}
-use lib.Dec.{T}
-use lib.IntN.{ℤ}
-use lib.Signed.{leZ, _≤ℤ_, _<ℤ_, leZ-yes, ≤ℤ-refl}
+use lib.IntN.{ℤ, _*ℤ_}
+use lib.Signed.{leZ, _≤ℤ_, leZ-yes, ≤ℤ-refl}
 use Rattle.exact.specs.Int.{leZ-no, <ℤ→≤ℤ, ≤ℤ-trans}
-use Rattle.range.specs.Arithmetic.{lesserOf, greaterOf, leastOf, greatestOf}
+use Rattle.range.specs.declared.Range.{Range}
+use Rattle.range.specs.Arithmetic.{lesserOf, greaterOf, leastOf, greatestOf, leastProduct, greatestProduct}
+use Rattle.range.proofs.Valid.{by-test}
 
 module _ (a b : ℤ) where
   -- a property of both is one of the lesser and of the greater
   pub lesser-any : (P : ℤ → Type 0) → P a → P b → P (lesserOf a b)
-  lesser-any P p q = go (leZ a b)
-    where
-      go : (c : Bool) → P (cond c a b)
-      go true = p
-      go false = q
+  lesser-any P p q = by-test P (leZ a b) (λ t. p) (λ t. q)
 
   pub greater-any : (P : ℤ → Type 0) → P a → P b → P (greaterOf a b)
-  greater-any P p q = go (leZ a b)
-    where
-      go : (c : Bool) → P (cond c b a)
-      go true = q
-      go false = p
+  greater-any P p q = by-test P (leZ a b) (λ t. q) (λ t. p)
 
   pub lesser-left : lesserOf a b ≤ℤ a
-  lesser-left = go (leZ a b) leZ-no
-    where
-      go : (c : Bool) → (T (not c) → b <ℤ a) → cond c a b ≤ℤ a
-      go true f = ≤ℤ-refl a
-      go false f = <ℤ→≤ℤ (f tt)
+  lesser-left = by-test (λ z. z ≤ℤ a) (leZ a b) (λ t. ≤ℤ-refl a) (λ t. <ℤ→≤ℤ (leZ-no t))
 
   pub lesser-right : lesserOf a b ≤ℤ b
-  lesser-right = go (leZ a b) leZ-yes
-    where
-      go : (c : Bool) → (T c → a ≤ℤ b) → cond c a b ≤ℤ b
-      go true f = f tt
-      go false f = ≤ℤ-refl b
+  lesser-right = by-test (λ z. z ≤ℤ b) (leZ a b) leZ-yes (λ t. ≤ℤ-refl b)
 
   pub greater-left : a ≤ℤ greaterOf a b
-  greater-left = go (leZ a b) leZ-yes
-    where
-      go : (c : Bool) → (T c → a ≤ℤ b) → a ≤ℤ cond c b a
-      go true f = f tt
-      go false f = ≤ℤ-refl a
+  greater-left = by-test (λ z. a ≤ℤ z) (leZ a b) leZ-yes (λ t. ≤ℤ-refl a)
 
   pub greater-right : b ≤ℤ greaterOf a b
-  greater-right = go (leZ a b) leZ-no
-    where
-      go : (c : Bool) → (T (not c) → b <ℤ a) → b ≤ℤ cond c b a
-      go true f = ≤ℤ-refl b
-      go false f = <ℤ→≤ℤ (f tt)
+  greater-right = by-test (λ z. b ≤ℤ z) (leZ a b) (λ t. ≤ℤ-refl b) (λ t. <ℤ→≤ℤ (leZ-no t))
 
 -- of four: below and above each
 module _ (p q r s : ℤ) where
@@ -80,5 +56,16 @@ module _ (p q r s : ℤ) where
   pub greatest-any : (P : ℤ → Type 0) → P p → P q → P r → P s → P (greatestOf p q r s)
   greatest-any P a b c d = greater-any (greaterOf p q) (greaterOf r s) P (greater-any p q P a b) (greater-any r s P c d)
 
-  pub extremes-any : (P : ℤ → Type 0) → P p → P q → P r → P s → P (leastOf p q r s) × P (greatestOf p q r s)
-  extremes-any P a b c d = (least-any P a b c d, greatest-any P a b c d)
+-- of the four end products of two ranges
+module _ (a b : Range) where
+  pub end-products : Extremes (a .low *ℤ b .low) (a .low *ℤ b .high) (a .high *ℤ b .low) (a .high *ℤ b .high)
+      (leastProduct a b) (greatestProduct a b)
+  end-products = extremes (a .low *ℤ b .low) (a .low *ℤ b .high) (a .high *ℤ b .low) (a .high *ℤ b .high)
+
+  module _ (P : ℤ → Type 0)
+      (ll : P (a .low *ℤ b .low)) (lh : P (a .low *ℤ b .high)) (hl : P (a .high *ℤ b .low)) (hh : P (a .high *ℤ b .high)) where
+    pub least-product : P (leastProduct a b)
+    least-product = least-any (a .low *ℤ b .low) (a .low *ℤ b .high) (a .high *ℤ b .low) (a .high *ℤ b .high) P ll lh hl hh
+
+    pub greatest-product : P (greatestProduct a b)
+    greatest-product = greatest-any (a .low *ℤ b .low) (a .low *ℤ b .high) (a .high *ℤ b .low) (a .high *ℤ b .high) P ll lh hl hh

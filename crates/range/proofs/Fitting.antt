@@ -17,7 +17,8 @@ use Rattle.range.specs.declared.Range.{Range}
 use Rattle.range.specs.Limit.{least, most, fromTo, over, isValid, bothValid, kept}
 use Rattle.range.specs.Arithmetic.{endsNeg, negOf, endsHull, hullOf}
 use Rattle.range.specs.Steps.{Small}
-use Rattle.range.proofs.Valid.{T-true, true-T, and-left, and-right, ends-of, valid-of, both-left, both-right, kept-is, sticky₁-is, sticky₂-is, not-true, and-false, over-invalid}
+use Rattle.range.proofs.Valid.{T-true, true-T, and-left, and-right, ends-of, valid-of, both-left}
+use Rattle.range.proofs.Valid.{both-right, kept-is, sticky₁-is, sticky₂-is, not-true, and-false, over-invalid}
 use Rattle.range.proofs.Extremes.{lesser-left, lesser-any, greater-left, greater-any}
 
 abbrev pub Within : ℤ → Type 0
@@ -117,7 +118,7 @@ over-hullOf a = refl
 
 pub hullOf-over : (a : Range) → hullOf a over ≡ over
 unfolding hullOf bothValid
-hullOf-over a = let x : isValid over ≡ false = not-true over-invalid in let y : isValid a && isValid over ≡ false = and-false (isValid a) (isValid over) (inr x) in rw y
+hullOf-over a = let y : isValid a && isValid over ≡ false = and-false (isValid a) (isValid over) (inr (not-true over-invalid)) in rw y
 
 -- a byte, as a factor
 pub byte-within : (k : ℕ) → Fits w8 k → k ≤ 2000000000

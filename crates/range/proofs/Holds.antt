@@ -1,7 +1,7 @@
 -- Laws of `x ∈ r`, and of any property that is said of a range where it is valid: of a test with `over` on its other side, and of a sticky
 -- operation, it is shown where the test passed, of the ends. Assumes nothing.
 use mathlib.Core.Path.{_≡_, sym, subst}
-use mathlib.Core.Bool.{Bool, true, false, not, cond}
+use mathlib.Core.Bool.{Bool, not, cond}
 use lib.Dec.{T}
 use lib.IntN.{ℤ, pos}
 use Rattle.exact.proofs.Rat as Q
@@ -11,8 +11,8 @@ use Rattle.exact.specs.Units.{In}
 use Rattle.range.specs.declared.Range.{Range}
 use Rattle.range.specs.Limit.{fromTo, zeroRange, oneRange, over, isValid, kept, sticky₁, sticky₂}
 use Rattle.range.specs.Inclusion.{_∈_}
-use Rattle.range.proofs.Valid.{over-invalid, sticky₁-of, sticky₂-of}
-use Rattle.range.proofs.Units.{units-0, units-1}
+use Rattle.range.proofs.Valid.{by-test, over-invalid, sticky₁-of, sticky₂-of}
+use Rattle.exact.proofs.Units.{units-0, units-1}
 
 -- ---- a property P of ranges, where they are valid
 abbrev pub IfValid : (Range → Type 0) → Range → Type 0
@@ -23,12 +23,10 @@ module _ (P : Range → Type 0) where
   over-holds t = absurd (over-invalid t)
 
   pub if-holds : (c : Bool) {r : Range} → (T c → IfValid P r) → IfValid P (cond c r over)
-  if-holds true f = f tt
-  if-holds false f = over-holds
+  if-holds c f = by-test (IfValid P) c f (λ t. over-holds)
 
   pub either-holds : (c : Bool) {r s : Range} → (T c → IfValid P r) → (T (not c) → IfValid P s) → IfValid P (cond c r s)
-  either-holds true f g = f tt
-  either-holds false f g = g tt
+  either-holds c f g = by-test (IfValid P) c f g
 
   pub kept-holds : (r : Range) → P r → IfValid P (kept r)
   unfolding kept

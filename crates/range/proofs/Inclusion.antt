@@ -1,8 +1,9 @@
--- What each operation means for the numbers inside. The laws of `Bounded`, at weight 1, give those of sums, multiples, products and hulls.
--- Assumes nothing.
+-- `inclusion`: each operation's result holds the exact results. The laws of `Bounded`, at weight 1, give those of sums, multiples, products
+-- and hulls. Assumes nothing.
 use Rattle.range.specs.Inclusion.{Inclusion}
 use Rattle.range.proofs.Holds.{zero-∈, one-∈}
-use Rattle.range.proofs.Bounded.{weighted, member, one-nonneg, sum-bounded, neg-bounded, times-bounded, product-bounded, hull-left-bounded, hull-right-bounded}
+use Rattle.range.proofs.Bounded.{weighted, member, one-nonneg, sum-bounded, neg-bounded}
+use Rattle.range.proofs.Bounded.{times-bounded, product-bounded, hull-left-bounded, hull-right-bounded}
 use Rattle.range.proofs.InclusionInverse.{inverse-∈, divisor-nonzero}
 use Rattle.range.proofs.InclusionPower.{power-∈}
 use Rattle.range.proofs.InclusionSums.{products-∈, squares-∈, root-ends, root-∈}

@@ -11,7 +11,7 @@ use lib.Signed.{leZ, _≤ℤ_, leZ-yes, ≤ℤ-refl}
 use Rattle.algebra.proofs.Ring as Ring
 use Rattle.algebra.proofs.Ordered as Ord
 use Rattle.algebra.proofs.Solver.{_:*_, :-_, _:=_, ring}
-use Rattle.exact.specs.Int.{ints, neg-dif, leZ-no, <ℤ→≤ℤ}
+use Rattle.exact.specs.Int.{neg-nonneg, neg-nonpos, leZ-no, <ℤ→≤ℤ}
 use Rattle.exact.proofs.Rat as Q
 use Rattle.exact.proofs.Rat.{ℚ, _*ℚ_, negℚ, _≤ℚ_, 0ℚ}
 use Rattle.exact.proofs.Units.{units}
@@ -19,11 +19,13 @@ use Rattle.exact.proofs.Rat.{ℚ-ring, ℚ-ordered}
 use Rattle.range.specs.declared.Range.{Range}
 use Rattle.range.specs.Limit.{isValid}
 use Rattle.range.specs.Arithmetic.{greaterOf}
-use Rattle.range.specs.Power.{chain, D, U, upsWithin, isEven, powAbove, powBelow, powAcrossEven, powAcrossOdd, powAcross, powBySign, powOf}
+use Rattle.range.specs.Power.{chain, D, U, upsWithin, isEven, powAbove, powBelow}
+use Rattle.range.specs.Power.{powAcrossEven, powAcrossOdd, powAcross, powBySign, powOf}
 use Rattle.range.specs.Inclusion.{_∈_, _^_}
 use Rattle.range.proofs.Extremes.{greater-left, greater-right}
 use Rattle.range.proofs.Powers.{chain-low, down-down, up-up}
-use Rattle.range.proofs.Units.{units-0, units-1, units-mono, units-nonneg, units-nonpos, neg-upper, neg-lower, floor-below, ceil-above}
+use Rattle.exact.proofs.Units.{units-0, units-1, units-mono, units-nonneg, units-nonpos}
+use Rattle.exact.proofs.Units.{neg-upper, neg-lower, floor-below, ceil-above, in-neg}
 use Rattle.range.proofs.Holds.{Between, ∈-of, ∈-eq, one-∈, if-∈, either-∈}
 
 -- ---- numbers that are not negative
@@ -96,21 +98,13 @@ module _ (x : ℚ) where
       go false t = Q.negℚ-negℚ (x ^ e)
 
 -- ---- by the signs of the ends
-neg-nonneg : (z : ℤ) → z ≤ℤ pos 0 → pos 0 ≤ℤ negℤ z
-neg-nonneg z h = omega (ints, neg-dif z)
-
-neg-nonpos : (z : ℤ) → pos 0 ≤ℤ z → negℤ z ≤ℤ pos 0
-neg-nonpos z h = omega (ints, neg-dif z)
-
-neg-between : (r : Range) {x : ℚ} → Between x r → Between (negℚ x) (record { low = negℤ (r .high); high = negℤ (r .low) })
-neg-between r i = record { low = neg-lower (r .high) (i .high); high = neg-upper (r .low) (i .low) }
-
 module _ (a : Range) {x : ℚ} (e : ℕ) (i : Between x a) where
   above-∈ : pos 0 ≤ℤ a .low → x ^ e ∈ powAbove a e
   unfolding powAbove
   above-∈ n =
       let p = Q.≤ℚ-trans (units-nonneg n) (i .low) in
-      if-∈ (upsWithin (a .high) e) (λ t. ∈-of (record { low = pow-lower p (a .low) n (i .low) e; high = pow-upper p (a .high) (i .high) e }))
+      if-∈ (upsWithin (a .high) e) (λ t.
+      ∈-of (record { low = pow-lower p (a .low) n (i .low) e; high = pow-upper p (a .high) (i .high) e }))
 
   below-∈ : a .high ≤ℤ pos 0 → x ^ e ∈ powBelow a e
   unfolding powBelow
@@ -118,14 +112,14 @@ module _ (a : Range) {x : ℚ} (e : ℕ) (i : Between x a) where
       if-∈ (upsWithin (negℤ (a .low)) e) (λ t.
       either-∈ (isEven e)
       (λ u. ∈-eq (even-pow x e u) (∈-of magnitude))
-      (λ u. ∈-eq (odd-pow x e u) (∈-of (neg-between _ magnitude))))
+      (λ u. ∈-eq (odd-pow x e u) (∈-of (in-neg magnitude))))
     where
       p : 0ℚ ≤ℚ negℚ x
       p = Ord.neg-nonneg ℚ-ordered (Q.≤ℚ-trans (i .high) (units-nonpos n))
 
       magnitude : Between (negℚ x ^ e) (record { low = D (negℤ (a .high)) e; high = U (negℤ (a .low)) e })
       magnitude = record {
-        low = pow-lower p (negℤ (a .high)) (neg-nonneg (a .high) n) (neg-lower (a .high) (i .high)) e;
+        low = pow-lower p (negℤ (a .high)) (neg-nonneg n) (neg-lower (a .high) (i .high)) e;
         high = pow-upper p (negℤ (a .low)) (neg-upper (a .low) (i .low)) e;
       }
 
@@ -165,7 +159,7 @@ module _ (a : Range) {x : ℚ} (e : ℕ) (i : Between x a) where
       ∈-of
       (⊎-elim
       (λ p. record {
-        low = Q.≤ℚ-trans (units-nonpos (neg-nonpos u (U-nonneg (neg-nonneg (a .low) l)))) (pow-nonneg p e);
+        low = Q.≤ℚ-trans (units-nonpos (neg-nonpos (U-nonneg (neg-nonneg l)))) (pow-nonneg p e);
         high = positive (a .high) (≤ℤ-refl _) p;
       })
       (λ p. rw (← (odd-pow x e t)) (record {

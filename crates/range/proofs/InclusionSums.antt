@@ -1,40 +1,35 @@
 -- Sums over the factors of a set: what the sums of products and of squares hold, and what the root bounds. Assumes nothing.
-use mathlib.Core.Path.{_≡_, refl, sym, _∙_, ap}
+use mathlib.Core.Path.{_≡_, refl, sym, _∙_}
 use mathlib.Core.List.{List}
 use mathlib.Core.Bool.{Bool, true, false, cond, _&&_}
-use Prim.Native.Nat.{ℕ, zero, suc, _*_, _<_}
+use Prim.Native.Nat.{ℕ, suc, _*_, _<_}
 use lib.Dec.{T}
 use lib.IntN.{ℤ, pos, negsuc, negℤ, _*ℤ_, natAbs}
 use lib.Signed.{_≤ℤ_, ≤ℤ-refl}
 use Rattle.algebra.proofs.Ordered as Ord
 use Rattle.exact.specs.Int.{ℤ-ring}
 use Rattle.algebra.proofs.Sum as Sum
-use Rattle.algebra.proofs.Sum.{sum}
 use Rattle.exact.specs.Int.{ints, neg-dif, pos-≤, ≤ℤ-trans}
 use Rattle.exact.proofs.Sqrt.{ceil-root}
 use Rattle.exact.proofs.Rat as Q
-use Rattle.exact.proofs.Rat.{ℚ, _+ℚ_, _*ℚ_, _≤ℚ_, 0ℚ}
-use Rattle.exact.proofs.Units.{units, units-+}
+use Rattle.exact.proofs.Rat.{ℚ, _*ℚ_, _≤ℚ_, 0ℚ}
+use Rattle.exact.proofs.Units.{units}
 use Rattle.exact.proofs.Rat.{ℚ-ring, ℚ-ordered}
 use Rattle.range.specs.declared.Range.{Range}
 use Rattle.range.specs.Limit.{fromTo, over, isValid, kept}
 use Rattle.range.specs.Arithmetic.{endsProduct}
-use Rattle.range.specs.Sums.{has, sumOver, at, validOver, endsProducts, productsOf, largestSquare, squareSum, squaresOf, rootSum, rootOf}
+use Rattle.range.specs.Sums.{has, sumOver, at, validOver, endsProducts, productsOf}
+use Rattle.range.specs.Sums.{largestSquare, squareSum, squaresOf, rootSum, rootOf}
 use Rattle.range.specs.Inclusion.{_∈_, Members, sumℚ}
 use Rattle.range.proofs.Valid.{and-left, and-right, if-valid, if-passed, kept-valid, kept-is}
 use Rattle.range.proofs.Extremes.{greater-left, greater-right}
 use Rattle.range.proofs.SumOver.{sumOver-mono, sumOver-nonneg, members-valid}
-use Rattle.range.proofs.Units.{units-0, units-nonneg, ceil-above, products-≤}
+use Rattle.exact.proofs.Units.{units-0, units-nonneg, ceil-above, products-≤, sum-units}
 use Rattle.range.proofs.Holds.{Between, if-∈, kept-∈}
 use Rattle.range.proofs.Bounded.{between-of, one-nonneg, product-scaled}
 use Rattle.range.proofs.Scaled as S
 
 -- ---- a sum in units
-sum-units : (n : ℕ) (f : ℕ → ℤ) → units (sum ℤ-ring n f) ≡ sum ℚ-ring n (λ a. units (f a))
-unfolding sum
-sum-units zero f = units-0
-sum-units (suc n) f = sym (units-+ (f n) (sum ℤ-ring n f)) ∙ ap (units (f n) +ℚ_) (sum-units n f)
-
 pub sumOver-units : (s : ℕ) (f : ℕ → ℤ) → units (sumOver ℤ-ring s f) ≡ sumℚ s (λ a. units (f a))
 unfolding sumOver
 sumOver-units s f = sum-units 8 (λ a. cond (has s a) (f a) (pos 0)) ∙ Sum.sum-ext ℚ-ring 8 (λ a l. part (has s a) (f a))

@@ -1,21 +1,28 @@
--- Laws of ranges, and what the proofs of the functions use.
+-- Laws of ranges, lent upward.
+
+-- what `isValid`, `kept` and the sticky operations come to; least and greatest; sums over a set
 pub mod Valid
 pub mod Extremes
+pub mod SumOver
+-- powers: D and U; the rows of 01's table as two forms
 pub mod Powers
+pub mod PowerForms
+-- what the proofs of the functions use: fits, the inverse by sign, powers by products, the root, loops over a mask
 pub mod Fitting
 pub mod Inverting
 pub mod Climbing
 pub mod Squares
 pub mod Scanning
-pub mod Units
-pub mod Quotients
-pub mod SumOver
-pub mod PowerForms
-pub mod Within
+-- specs/Laws
 pub mod Closure
 pub mod Symmetry
-pub mod Isotone
+pub mod Within
+pub mod Isotonicity
 pub mod Laws
+-- the ends without a limit, which refusal 12 is held against
+pub mod Ordered
+pub mod Unlimited
+-- specs/Inclusion, and its weighted form `Bounded`, for values, gradients and spectra
 pub mod Holds
 pub mod Scaled
 pub mod Bounded

@@ -1,5 +1,5 @@
--- The rows of a power, of an exponent e ≥ 1, as one form for even and one for odd e, so that a law of powers is proved of two forms and not of the
--- pairs of rows. The part of an end above zero and that below are magnitudes, of which one is 0. Assumes nothing.
+-- The rows of a power, of an exponent e ≥ 1, as one form for even and one for odd e, so that a law of powers is proved of two forms and not
+-- of the pairs of rows. The part of an end above zero and that below are magnitudes, of which one is 0. Assumes nothing.
 use mathlib.Core.Path.{_≡_, refl, sym, ap, ap₂, _∙_}
 use mathlib.Core.Bool.{Bool, true, false, _&&_, cond, and-true}
 use Prim.Native.Nat.{ℕ, zero, suc, _+_, zero-le}
@@ -96,7 +96,8 @@ module _ (e : ℕ) where
   even-form v (pos a) (pos b) o =
       rw (leb·zero a) (even-of (suc e) (ap pos (sym (N.add-zero a))) (greater-is-right {x = negℤ (pos a)} (omega (ints, neg-dif (pos a)))))
   even-form v (pos a) (negsuc b) o = absurd (o .le)
-  even-form v (negsuc a) (negsuc b) o = rw v (even-of (suc e) (ap pos (sym (N.zero-add (suc b)))) (greater-is-left {y = negsuc b} (omega ints)))
+  even-form v (negsuc a) (negsuc b) o =
+      rw v (even-of (suc e) (ap pos (sym (N.zero-add (suc b)))) (greater-is-left {y = negsuc b} (omega ints)))
   even-form v (negsuc a) (pos zero) o = rw v (even-of (suc e) refl (greater-is-left {y = pos zero} (omega ints)))
   even-form v (negsuc a) (pos (suc b)) o =
       let m = greaterOf (pos (suc a)) (pos (suc b)) in
@@ -138,7 +139,8 @@ module _ (e : ℕ) where
 abbrev pub powOfValid : Range → ℕ → Range
 powOfValid r e = cond (eqb e 0) oneRange (powBySign r e)
 
-pub pow-form : (r : Range) → r .low ≤ℤ r .high → (e : ℕ) → powOfValid r (suc e) ≡ cond (isEven (suc e)) (powEven r (suc e)) (powOdd r (suc e))
+pub pow-form : (r : Range) → r .low ≤ℤ r .high → (e : ℕ)
+    → powOfValid r (suc e) ≡ cond (isEven (suc e)) (powEven r (suc e)) (powOdd r (suc e))
 pow-form r o e = rw (eqb·suc-zero e) (go (isEven (suc e)) refl)
   where
     go : (c : Bool) → isEven (suc e) ≡ c → powBySign r (suc e) ≡ cond c (powEven r (suc e)) (powOdd r (suc e))

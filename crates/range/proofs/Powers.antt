@@ -2,7 +2,7 @@
 use mathlib.Core.Path.{_≡_, refl, ap}
 use Prim.Native.Nat.{ℕ, zero, suc, _<_}
 use lib.Dec.{T, lit<}
-use lib.IntN.{ℤ, pos, _*ℤ_, zero-*ℤ, *ℤ-zero}
+use lib.IntN.{ℤ, pos, zero-*ℤ, *ℤ-zero}
 use lib.Signed.{leZ, _≤ℤ_, ≤ℤ-refl, leZ-yes}
 use Rattle.algebra.proofs.Ordered as Ord
 use Rattle.exact.specs.Int.{ℤ-ordered, ≤ℤ-trans, *ℤ-nonneg}
@@ -30,7 +30,8 @@ module _ {f g : ℤ → ℤ} (s : Grows f g) {l h : ℤ} (p : pos 0 ≤ℤ l) (o
   unfolding chain
   chain-high zero = ≤ℤ-refl (pos 10000)
   chain-high (suc zero) = o
-  chain-high (suc (suc e)) = s .high _ _ (*ℤ-nonneg (chain-low (suc e)) p) (Ord.mul-mono ℤ-ordered (chain-low (suc e)) (chain-high (suc e)) p o)
+  chain-high (suc (suc e)) =
+      s .high _ _ (*ℤ-nonneg (chain-low (suc e)) p) (Ord.mul-mono ℤ-ordered (chain-low (suc e)) (chain-high (suc e)) p o)
 
 pub floor-nonneg : (x : ℤ) → pos 0 ≤ℤ x → pos 0 ≤ℤ floorDiv x 10000
 floor-nonneg x h = floor-iff (pos 0) x ten-thousand .1 (rw (zero-*ℤ (pos 10000)) h)

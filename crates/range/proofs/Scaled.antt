@@ -1,6 +1,6 @@
 -- Bounds in proportion to a weight: lo·s ≤ y ≤ hi·s for a weight s ≥ 0. At s = 1 they say that y lies between lo and hi; where y is a
--- quadratic form at a vector and s the sum of its squares, that lo and hi bound the form's eigenvalues. So one law for each operation serves
--- values, gradients and spectra. Assumes nothing.
+-- quadratic form at a vector and s the sum of its squares, that lo and hi bound the form's eigenvalues. So one law for each operation
+-- serves values, gradients and spectra. Assumes nothing.
 use mathlib.Core.Path.{_≡_, sym, ap}
 use Rattle.algebra.proofs.Ring as Ring
 use Rattle.algebra.proofs.Ring.{CommRing}

@@ -1,5 +1,5 @@
--- A loop over the factors of a set, from the lowest bit of its mask on: `Scan s rest a` says that `rest` is what is left of the mask s at the factor a.
--- Assumes nothing.
+-- The code's loops over the factors of a set, from the lowest bit of its mask on: `Scan s rest a` says that `rest` is what is left of the
+-- mask s at the factor a. One invariant for a test of all members, one for a sum of ranges, whose ends stay small. Assumes nothing.
 use mathlib.Core.Path.{_≡_, refl, sym, ap, ap₂, _∙_}
 use mathlib.Core.Bool.{Bool, true, false, _&&_, _||_, not, cond}
 use mathlib.Core.List.{List}
@@ -7,19 +7,19 @@ use Prim.Native.Nat.{ℕ, zero, suc, _+_, _*_, _-_, _/_, _%_, _^_, _≤_, _<_, z
 use native.Mathlib.Nat as N
 use native.Mathlib.Numerals.{add-one}
 use native.Mathlib.Omega.{arith}
-use lib.Dec.{T, eqb, lit<}
+use lib.Dec.{T, eqb}
 use lib.Pow.{pow-pos, pow-mono}
 use lib.IntN.{ℤ, pos, negsuc, negℤ, natAbs, _*ℤ_, _+ℤ_, +ℤ-comm, +ℤ-idl}
 use Rattle.algebra.specs.Sum.{sum}
 use Rattle.exact.specs.Int.{ℤ-ring, ℤ-ordered, neg-abs, add-abs, mul-abs}
 use Rattle.exact.proofs.Div.{floorDiv, ceilDiv}
 use Rattle.range.specs.declared.Range.{Range}
-use Rattle.range.specs.Limit.{fromTo, isValid}
+use Rattle.range.specs.Limit.{fromTo, zeroRange, isValid}
 use Rattle.range.specs.Arithmetic.{greaterOf, leastProduct, greatestProduct, endsProduct}
 use Rattle.range.specs.Sums.{has, sumOver, at, validBelow, validOver, largestSquare, squareSum, endsSquares}
 use Rattle.range.specs.Steps.{Small}
 use Rattle.range.proofs.Valid.{T-true, true-T}
-use Rattle.range.proofs.Extremes.{greater-any, extremes-any}
+use Rattle.range.proofs.Extremes.{greater-any, least-product, greatest-product}
 use Rattle.range.proofs.Fitting.{Within, low-within, high-within}
 use Rattle.range.proofs.SumOver.{sumOver-zero, members-valid}
 
@@ -40,7 +40,11 @@ module _ (s rest a : ℕ) (i : Scan s rest a) where
   scan-next h = record {
     small = i .small;
     within = omega arith;
-    left = ap (λ (r : ℕ). r / 2) (i .left) ∙ N.div-div-eq-div-mul s (2 ^ a) 2 ∙ ap (λ (n : ℕ). s / n) (sym (N.pow-suc 2 a)) ∙ ap (λ (n : ℕ). s / 2 ^ n) (sym (add-one a));
+    left =
+        ap (λ (r : ℕ). r / 2) (i .left)
+        ∙ N.div-div-eq-div-mul s (2 ^ a) 2
+        ∙ ap (λ (n : ℕ). s / n) (sym (N.pow-suc 2 a))
+        ∙ ap (λ (n : ℕ). s / 2 ^ n) (sym (add-one a));
   }
 
   pub scan-has : has s a ≡ eqb (rest % 2) 1
@@ -53,12 +57,16 @@ module _ (s rest a : ℕ) (i : Scan s rest a) where
   scan-none e b h = ap (λ (r : ℕ). eqb (r % 2) 1) (N.div-eq-of-lt below)
     where
       below : s < 2 ^ b
-      below = N.lt-of-lt-of-le (rw N.one-mul at (N.div-lt-iff-lt-mul {k = 2 ^ a} {x = s} {y = 1} (pow-pos a) .0 (omega (arith, sym (i .left) ∙ e)))) (pow-mono {i = a} {j = b} h)
+      below =
+          N.lt-of-lt-of-le
+          (rw N.one-mul at (N.div-lt-iff-lt-mul {k = 2 ^ a} {x = s} {y = 1} (pow-pos a) .0 (omega (arith, sym (i .left) ∙ e))))
+          (pow-mono {i = a} {j = b} h)
 
 -- ---- all members valid
 module _ (s : ℕ) (g : List Range) where
   -- a turn
-  pub valid-next : (ok : Bool) (rest a : ℕ) → Scan s rest a → ok ≡ validBelow a s g → ok && (not (eqb (rest % 2) 1) || isValid (at g a)) ≡ validBelow (a + 1) s g
+  pub valid-next : (ok : Bool) (rest a : ℕ) → Scan s rest a → ok ≡ validBelow a s g
+      → ok && (not (eqb (rest % 2) 1) || isValid (at g a)) ≡ validBelow (a + 1) s g
   unfolding validBelow
   valid-next ok rest a i e = rw (add-one a, e, ← scan-has s rest a i)
 
@@ -103,10 +111,16 @@ module _ (s : ℕ) (f g : ℕ → ℤ) where
     is = n ∙ rw (add-one a, i .is, e, ← scan-has s rest a (i .scan)) (both (has s a));
   }
     where
-      both : (c : Bool) → fromTo (sum ℤ-ring a (memberOr s f) +ℤ cond c (fromTo (f a) (g a)) (fromTo (pos 0) (pos 0)) .low) (sum ℤ-ring a (memberOr s g) +ℤ cond c (fromTo (f a) (g a)) (fromTo (pos 0) (pos 0)) .high)
-          ≡ fromTo (cond c (f a) (pos 0) +ℤ sum ℤ-ring a (memberOr s f)) (cond c (g a) (pos 0) +ℤ sum ℤ-ring a (memberOr s g))
-      both true = ap₂ fromTo (+ℤ-comm (sum ℤ-ring a (memberOr s f)) (f a)) (+ℤ-comm (sum ℤ-ring a (memberOr s g)) (g a))
-      both false = ap₂ fromTo (+ℤ-comm (sum ℤ-ring a (memberOr s f)) (pos 0)) (+ℤ-comm (sum ℤ-ring a (memberOr s g)) (pos 0))
+      F : ℤ
+      F = sum ℤ-ring a (memberOr s f)
+
+      G : ℤ
+      G = sum ℤ-ring a (memberOr s g)
+
+      both : (c : Bool) → fromTo (F +ℤ cond c (fromTo (f a) (g a)) zeroRange .low) (G +ℤ cond c (fromTo (f a) (g a)) zeroRange .high)
+          ≡ fromTo (cond c (f a) (pos 0) +ℤ F) (cond c (g a) (pos 0) +ℤ G)
+      both true = ap₂ fromTo (+ℤ-comm F (f a)) (+ℤ-comm G (g a))
+      both false = ap₂ fromTo (+ℤ-comm F (pos 0)) (+ℤ-comm G (pos 0))
 
   sum-rest : (h : ℕ → ℤ) (n a : ℕ) → ((b : ℕ) → a ≤ b → has s b ≡ false) → sum ℤ-ring (n + a) (memberOr s h) ≡ sum ℤ-ring a (memberOr s h)
   unfolding sum
@@ -123,13 +137,16 @@ module _ (s : ℕ) (f g : ℕ → ℤ) where
   summed-end total rest a i z = i .is ∙ ap₂ fromTo (last f) (last g)
     where
       last : (h : ℕ → ℤ) → sum ℤ-ring a (memberOr s h) ≡ sum ℤ-ring 8 (memberOr s h)
-      last h = sym (sum-rest h (8 - a) a (scan-none s rest a (i .scan) z)) ∙ ap (λ (k : ℕ). sum ℤ-ring k (memberOr s h)) (omega (arith, i .scan .within))
+      last h =
+          sym (sum-rest h (8 - a) a (scan-none s rest a (i .scan) z))
+          ∙ ap (λ (k : ℕ). sum ℤ-ring k (memberOr s h)) (omega (arith, i .scan .within))
 
 -- ---- the sums stay small
 sum-abs : (f : ℕ → ℤ) (m n : ℕ) → ((a : ℕ) → a < n → natAbs (f a) ≤ m) → natAbs (sum ℤ-ring n f) ≤ n * m
 unfolding sum
 sum-abs f m zero h = zero-le
-sum-abs f m (suc n) h = omega (arith, add-abs (f n) (sum ℤ-ring n f), h n (N.lt-suc-self n), sum-abs f m n (λ a l. h a (omega arith)), N.suc-mul n m)
+sum-abs f m (suc n) h =
+    omega (arith, add-abs (f n) (sum ℤ-ring n f), h n (N.lt-suc-self n), sum-abs f m n (λ a l. h a (omega arith)), N.suc-mul n m)
 
 -- what a member adds is at most m in magnitude, so that eight of them fit
 abbrev pub few : ℕ
@@ -156,12 +173,13 @@ module _ (s : ℕ) (f g : ℕ → ℤ) (p : Few s f) (q : Few s g) where
       → term ≡ cond (eqb (rest % 2) 1) (fromTo (f a) (g a)) (fromTo (pos 0) (pos 0)) → Small term
   term-small term rest a i l e = rw (e, ← scan-has s rest a i) (go (has s a) (p .each a l) (q .each a l))
     where
-      go : (c : Bool) → (T c → natAbs (f a) ≤ few) → (T c → natAbs (g a) ≤ few) → Small (cond c (fromTo (f a) (g a)) (fromTo (pos 0) (pos 0)))
+      go : (c : Bool) → (T c → natAbs (f a) ≤ few) → (T c → natAbs (g a) ≤ few) → Small (cond c (fromTo (f a) (g a)) zeroRange)
       go true h k = record { low = omega (arith, h tt); high = omega (arith, k tt) }
       go false h k = record { low = zero-le; high = zero-le }
 
 -- the range of a member is valid
-pub member-valid : (s rest a : ℕ) (g : List Range) → validOver s g ≡ true → Scan s rest a → a < 8 → eqb (rest % 2) 1 ≡ true → isValid (at g a) ≡ true
+pub member-valid : (s rest a : ℕ) (g : List Range) → validOver s g ≡ true → Scan s rest a → a < 8 → eqb (rest % 2) 1 ≡ true
+    → isValid (at g a) ≡ true
 member-valid s rest a g v i l e = T-true (members-valid s g (true-T v) a l (true-T (scan-has s rest a i ∙ e)))
 
 -- ---- products and squares of members
@@ -179,16 +197,18 @@ module _ (x y : ℤ) (p : Within x) (q : Within y) where
   product-few = omega (arith, mul-abs x y, N.mul-le-mul p q)
 
 module _ (s : ℕ) (g h : List Range) (v : validOver s g ≡ true) (w : validOver s h ≡ true) where
-  ends-few : (a b : Range) → isValid a ≡ true → isValid b ≡ true → (natAbs (endsProduct a b .low) ≤ few) × (natAbs (endsProduct a b .high) ≤ few)
+  ends-few : (a b : Range) → isValid a ≡ true → isValid b ≡ true
+      → (natAbs (endsProduct a b .low) ≤ few) × (natAbs (endsProduct a b .high) ≤ few)
   unfolding endsProduct
   ends-few a b p q =
       let small : ℤ → Type 0 = λ (z : ℤ). natAbs z ≤ 4000000000000000000 in
       let ll = product-few (a .low) (b .low) (low-within a p) (low-within b q) in
       let lh = product-few (a .low) (b .high) (low-within a p) (high-within b q) in
       let hl = product-few (a .high) (b .low) (high-within a p) (low-within b q) in
-      let hh = product-few (a .high) (b .high) (high-within a p) (high-within b q) in
-      let four = extremes-any (a .low *ℤ b .low) (a .low *ℤ b .high) (a .high *ℤ b .low) (a .high *ℤ b .high) small ll lh hl hh in
-      (floor-few (leastProduct a b) (four .0), ceil-few (greatestProduct a b) (four .1))
+      let hh = product-few (a .high) (b .high) (high-within a p) (high-within b q) in (
+        floor-few (leastProduct a b) (least-product a b small ll lh hl hh),
+        ceil-few (greatestProduct a b) (greatest-product a b small ll lh hl hh),
+      )
 
   valid-at : (k : List Range) → validOver s k ≡ true → (a : ℕ) → a < 8 → T (has s a) → isValid (at k a) ≡ true
   valid-at k u a l t = T-true (members-valid s k (true-T u) a l t)
@@ -208,12 +228,14 @@ square-few s g v = record { each = λ a l t. each (at g a) (T-true (members-vali
   where
     each : (r : Range) → isValid r ≡ true → natAbs (ceilDiv (greaterOf (r .low *ℤ r .low) (r .high *ℤ r .high)) 10000) ≤ few
     each r w =
-        ceil-few (greaterOf (r .low *ℤ r .low) (r .high *ℤ r .high)) (greater-any (r .low *ℤ r .low) (r .high *ℤ r .high) (λ (z : ℤ). natAbs z ≤ 4000000000000000000)
+        ceil-few (greaterOf (r .low *ℤ r .low) (r .high *ℤ r .high))
+        (greater-any (r .low *ℤ r .low) (r .high *ℤ r .high) (λ (z : ℤ). natAbs z ≤ 4000000000000000000)
         (product-few (r .low) (r .low) (low-within r w) (low-within r w))
         (product-few (r .high) (r .high) (high-within r w) (high-within r w)))
 
 -- the sum of the squares, from 0
-pub squares-end : (s : ℕ) (g : List Range) (total : Range) (rest a : ℕ) → Summed s (λ a. pos 0) (λ a. largestSquare (at g a)) total rest a → rest ≡ 0 → total ≡ endsSquares s g
+pub squares-end : (s : ℕ) (g : List Range) (total : Range) (rest a : ℕ)
+    → Summed s (λ a. pos 0) (λ a. largestSquare (at g a)) total rest a → rest ≡ 0 → total ≡ endsSquares s g
 unfolding squareSum
 squares-end s g total rest a i z =
     summed-end s _ _ total rest a i z ∙ ap (λ (l : ℤ). fromTo l (sumOver ℤ-ring s (λ a. largestSquare (at g a)))) (sumOver-zero ℤ-ordered s)

@@ -1,19 +1,23 @@
--- Numbers and their squares. Assumes nothing.
+-- The root as the code finds it: the least number whose square is not below x, and the range from −β to β, made or `over`. Assumes nothing.
 use mathlib.Core.Path.{_≡_, refl, sym, ap, _∙_}
 use mathlib.Core.Bool.{Bool, true, false, _&&_, cond}
 use Prim.Native.Nat.{ℕ, zero, suc, _≤_, _<_, _*_, _/_, _-_}
 use native.Mathlib.Omega.{arith}
 use native.Mathlib.Nat.{lt-of-lt-of-le, le-trans, mul-le-mul, le-refl, div-mul-le-self, div-lt-iff-lt-mul}
 use borrow.Author.Tests.{le-leb, lt-leb}
-use lib.IntN.{ℤ, pos, negsuc, negℤ, _-ℤ_, +ℤ-idl}
+use lib.IntN.{pos, negℤ, _-ℤ_, +ℤ-idl}
 use mir.Syntax.{w64}
-use mir.Val.{SFits, toZ, ofZ}
+use mir.Val.{Fits, SFits, toZ, ofZ}
 use mir.ValLaws.{toZ-pos, toZ-ofZ}
 use Rattle.range.proofs.Fitting.{neg-fits}
 use lib.Signed.{leZ}
 use Rattle.range.specs.declared.Range.{Range}
 use Rattle.range.specs.Limit.{fromTo, zeroRange, over, least, most, isValid, kept}
 use Rattle.exact.proofs.Sqrt.{ceilSqrt, ceil-root, ceil-root-unique, root-lt}
+
+-- two numbers up to 2,000,000,000 have a product that fits
+pub product-fits : (a b : ℕ) → a ≤ 2000000000 → b ≤ 2000000000 → Fits w64 (a * b)
+product-fits a b h k = omega (arith, mul-le-mul h k)
 
 pub not-zero : (x r : ℕ) → 1 ≤ x → x ≤ r * r → 1 ≤ r
 not-zero x zero h k = omega arith
@@ -42,7 +46,9 @@ no-end true true u e = e
 
 pub around-over : (b : ℕ) → 2000000000 < b → kept (aroundOf b) ≡ over
 unfolding kept isValid
-around-over b h = ap (λ (t : Bool). cond t (aroundOf b) over) (no-end (leZ least (negℤ (pos b))) (leZ (negℤ (pos b)) (pos b)) (leZ (pos b) most) (lt-leb b 2000000000 h))
+around-over b h =
+    ap (λ (t : Bool). cond t (aroundOf b) over)
+    (no-end (leZ least (negℤ (pos b))) (leZ (negℤ (pos b)) (pos b)) (leZ (pos b) most) (lt-leb b 2000000000 h))
 
 pub around-none : (n : ℕ) → n ≡ 0 → kept (aroundOf (ceilSqrt n)) ≡ zeroRange
 unfolding kept isValid ceilSqrt

@@ -1,5 +1,5 @@
--- Sums over the factors of a set: equal, at most, or not negative where the summands of its members are; and lists of which the members are valid.
--- Assumes nothing.
+-- Sums over the factors of a set: equal, at most, or not negative where the summands of its members are; and lists of which the members are
+-- valid. Assumes nothing.
 use mathlib.Core.Path.{_≡_, refl, sym}
 use mathlib.Core.Bool.{Bool, true, false, _||_, not, cond}
 use mathlib.Core.List.{List}

@@ -12,10 +12,12 @@ use Rattle.exact.specs.Int.{≤ℤ-antisym}
 use Rattle.exact.proofs.Sqrt.{ceilSqrt}
 use Rattle.range.specs.declared.Range.{Range}
 use Rattle.range.specs.Limit.{fromTo, over, isValid, bothValid, kept, sticky₂}
-use Rattle.range.specs.Arithmetic.{lesserOf, greaterOf, leastProduct, greatestProduct, endsSum, endsProduct, endsHull, sumOf, productOf, hullOf}
+use Rattle.range.specs.Arithmetic.{lesserOf, greaterOf, leastProduct, greatestProduct}
+use Rattle.range.specs.Arithmetic.{endsSum, endsProduct, endsHull, sumOf, productOf, hullOf}
 use Rattle.range.specs.Sums.{at, validOver, endsProducts, productsOf, squareSum, rootSum, rootOf}
 use Rattle.range.specs.Laws.{Symmetry}
-use Rattle.range.proofs.Extremes.{lesser-any, greater-any, lesser-left, lesser-right, greater-left, greater-right, extremes, least-any, greatest-any}
+use Rattle.range.proofs.Extremes.{lesser-any, greater-any, lesser-left, lesser-right, greater-left}
+use Rattle.range.proofs.Extremes.{greater-right, end-products, least-product, greatest-product}
 use Rattle.range.proofs.SumOver.{sumOver-ext}
 
 -- ---- the lesser and the greater, of two and of the four products
@@ -37,9 +39,9 @@ module _ (a b : Range) where
 
   least-below : leastProduct a b ≤ℤ leastProduct b a
   least-below =
-      let e = extremes (a .low *ℤ b .low) (a .low *ℤ b .high) (a .high *ℤ b .low) (a .high *ℤ b .high) in
+      let e = end-products a b in
       let P : ℤ → Type 0 = λ z. leastProduct a b ≤ℤ z in
-      least-any (b .low *ℤ a .low) (b .low *ℤ a .high) (b .high *ℤ a .low) (b .high *ℤ a .high) P
+      least-product b a P
       (swapped P (a .low) (b .low) (e .low-1))
       (swapped P (a .high) (b .low) (e .low-3))
       (swapped P (a .low) (b .high) (e .low-2))
@@ -47,9 +49,9 @@ module _ (a b : Range) where
 
   greatest-above : greatestProduct b a ≤ℤ greatestProduct a b
   greatest-above =
-      let e = extremes (a .low *ℤ b .low) (a .low *ℤ b .high) (a .high *ℤ b .low) (a .high *ℤ b .high) in
+      let e = end-products a b in
       let P : ℤ → Type 0 = λ z. z ≤ℤ greatestProduct a b in
-      greatest-any (b .low *ℤ a .low) (b .low *ℤ a .high) (b .high *ℤ a .low) (b .high *ℤ a .high) P
+      greatest-product b a P
       (swapped P (a .low) (b .low) (e .high-1))
       (swapped P (a .high) (b .low) (e .high-3))
       (swapped P (a .low) (b .high) (e .high-2))

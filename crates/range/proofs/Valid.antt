@@ -1,9 +1,8 @@
 -- Valid ranges: their ends as facts, and what a sticky operation gives. Assumes nothing.
-use mathlib.Core.Path.{_≡_, refl, sym, ap, _∙_, subst}
+use mathlib.Core.Path.{_≡_, refl, sym, _∙_, subst}
 use mathlib.Core.Bool.{Bool, true, false, not, _&&_, cond}
 use mathlib.Core.Logic.{_⊎_, inl, inr}
 use lib.Dec.{T}
-use lib.IntN.{ℤ}
 use lib.Signed.{leZ, _≤ℤ_, leZ-yes}
 use Rattle.range.specs.declared.Range.{Range}
 use Rattle.range.specs.Limit.{least, most, over, isValid, bothValid, kept, sticky₁, sticky₂}
@@ -41,6 +40,11 @@ and-false b c (inl e) = rw e
 and-false true c (inr e) = e
 and-false false c (inr e) = refl
 
+-- what holds of both ways out of a test
+pub by-test : {A : Type 0} (P : A → Type 0) (c : Bool) {x y : A} → (T c → P x) → (T (not c) → P y) → P (cond c x y)
+by-test P true f g = f tt
+by-test P false f g = g tt
+
 -- ---- the ends of a valid range
 pub record Ends (r : Range) : Type 0 where
   pub above : least ≤ℤ r .low
@@ -55,7 +59,11 @@ module _ (r : Range) where
       let order = leZ (r .low) (r .high) in
       let below = leZ (r .high) most in
       let u = and-right above (order && below) t in
-      record { above = leZ-yes (and-left above (order && below) t); order = leZ-yes (and-left order below u); below = leZ-yes (and-right order below u) }
+      record {
+        above = leZ-yes (and-left above (order && below) t);
+        order = leZ-yes (and-left order below u);
+        below = leZ-yes (and-right order below u);
+      }
 
   pub valid-of : Ends r → T (isValid r)
   unfolding isValid

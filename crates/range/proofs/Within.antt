@@ -1,4 +1,5 @@
--- Ends inside ends, and how a narrower operand's result comes out narrower through a test, a kept result and a sticky operation. Assumes nothing.
+-- Ends inside ends, and how a narrower operand's result comes out narrower through a test, a kept result and a sticky operation.
+-- Assumes nothing.
 use mathlib.Core.Bool.{Bool, true, false, not, cond}
 use lib.Dec.{T}
 use lib.Signed.{_≤ℤ_, ≤ℤ-refl}
@@ -6,7 +7,7 @@ use Rattle.exact.specs.Int.{≤ℤ-trans}
 use Rattle.range.specs.declared.Range.{Range}
 use Rattle.range.specs.Limit.{over, isValid, bothValid, kept, sticky₁, sticky₂}
 use Rattle.range.specs.Laws.{Inside, _⊑_}
-use Rattle.range.proofs.Valid.{Ends, ends-of, valid-of, both-left, both-right, both-valid, over-invalid}
+use Rattle.range.proofs.Valid.{ends-of, valid-of, both-left, both-right, both-valid, over-invalid}
 
 -- a's ends are in order and between b's, whether these count or not
 pub record Within (a b : Range) : Type 0 where

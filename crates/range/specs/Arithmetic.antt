@@ -1,9 +1,9 @@
--- 01, "Range arithmetic": sum, negation, whole-number multiple, product, inverse and hull.
--- `ends..` is what 01 says of the ends of the result; the operation keeps it where operands and result are valid (`sticky₁`, `sticky₂`).
+-- 01, "Range arithmetic": "A range is combined with another by sum, negation, product, power, inverse and hull". Power is in Power.antt.
+-- `ends..` is what 01 says of the ends of the result; the operation gives it where operands and result are valid (`sticky₁`, `sticky₂`).
 use mathlib.Core.Bool.{Bool, _&&_, cond}
 use Prim.Native.Nat.{ℕ}
 use lib.IntN.{ℤ, pos, negℤ, _+ℤ_, _*ℤ_}
-use lib.Signed.{leZ, ltZ}
+use lib.Signed.{leZ}
 use Rattle.exact.specs.Div.{floorDiv, ceilDiv, floorQuot, ceilQuot}
 use Rattle.range.specs.declared.Range.{Range}
 use Rattle.range.specs.Limit.{fromTo, over, sticky₁, sticky₂}
@@ -40,7 +40,8 @@ endsTimes k a = fromTo (pos k *ℤ a .low) (pos k *ℤ a .high)
 unfoldable pub timesOf : ℕ → Range → Range
 timesOf k a = sticky₁ (endsTimes k) a
 
--- "Product: least and greatest of the four end products, divided by 10,000; the low end rounded toward minus infinity, the high end toward plus infinity."
+-- "Product: least and greatest of the four end products, divided by 10,000; the low end rounded toward minus infinity, the high end toward
+-- plus infinity."
 abbrev pub leastProduct : Range → Range → ℤ
 leastProduct a b = leastOf (a .low *ℤ b .low) (a .low *ℤ b .high) (a .high *ℤ b .low) (a .high *ℤ b .high)
 
@@ -59,7 +60,8 @@ endsProduct a b = scaledOf (spreadOf a b)
 unfoldable pub productOf : Range → Range → Range
 productOf a b = sticky₂ endsProduct a b
 
--- "Inverse: 100,000,000 divided by the other end, rounded the same way." A range that holds 0 has none; refusal 11 is its caller's.
+-- "Inverse: 100,000,000 divided by the other end, rounded the same way." A range that holds 0 has none, which its caller refuses with 11
+-- ("low ≤ 0 ≤ high") before.
 abbrev pub holdsZero : Range → Bool
 holdsZero a = leZ (a .low) (pos 0) && leZ (pos 0) (a .high)
 

@@ -1,9 +1,10 @@
--- What each operation means: it holds the exact results of the numbers that its operands hold. Proved in proofs/Inclusion.antt: `inclusion`.
+-- What each operation means (sources 000, Table 1, and 001, Fact 1): its result holds the exact results of the numbers that its operands
+-- hold. Proved in proofs/Inclusion.antt: `inclusion`.
 use mathlib.Core.Path.{_≡_}
 use mathlib.Core.List.{List}
 use Prim.Native.Nat.{ℕ, _<_}
 use lib.Dec.{T}
-use lib.IntN.{ℤ, pos, negℤ}
+use lib.IntN.{pos, negℤ}
 use Rattle.algebra.specs.Ring as Ring
 use Rattle.exact.specs.Rat.{ℚ, fromℤ, _+ℚ_, _*ℚ_, negℚ, _≤ℚ_, 0ℚ, 1ℚ}
 use Rattle.exact.specs.Units.{units, In}
@@ -14,8 +15,8 @@ use Rattle.range.specs.Arithmetic.{sumOf, negOf, timesOf, productOf, inv
 use Rattle.range.specs.Power.{powOf}
 use Rattle.range.specs.Sums.{has, sumOver, at, productsOf, squaresOf, rootOf}
 
--- x lies between the ends of r, an end of u units being u/10,000, if r is valid. Of `over` it says nothing, so that what follows needs no condition
--- on a result.
+-- x lies between the ends of r if r is valid (01, "The exact side": "An end of u units is compared as u/10,000"). Of `over` it says
+-- nothing, so that what follows needs no condition on a result.
 infix 4 _∈_
 pub record _∈_ (x : ℚ) (r : Range) : Type 0 where
   pub between : T (isValid r) → In (r .low) (r .high) x
@@ -50,6 +51,7 @@ pub record Inclusion : Type 0 where
   pub products : {s : ℕ} {g h : List Range} {x y : ℕ → ℚ} → Members s x g → Members s y h → sumℚ s (λ a. x a *ℚ y a) ∈ productsOf s g h
   pub squares : {s : ℕ} {g : List Range} {x : ℕ → ℚ} → Members s x g → sumℚ s (λ a. x a *ℚ x a) ∈ squaresOf s g
   -- [−β, β] with (Σ x²)(Σ y²) ≤ β²
-  pub root-ends : (s : ℕ) (g h : List Range) → T (isValid (rootOf s g h)) → (rootOf s g h .low ≡ negℤ (rootOf s g h .high)) × (0ℚ ≤ℚ units (rootOf s g h .high))
+  pub root-ends : (s : ℕ) (g h : List Range) → T (isValid (rootOf s g h))
+      → (rootOf s g h .low ≡ negℤ (rootOf s g h .high)) × (0ℚ ≤ℚ units (rootOf s g h .high))
   pub root : {s : ℕ} {g h : List Range} {x y : ℕ → ℚ} → Members s x g → Members s y h → T (isValid (rootOf s g h))
       → sumℚ s (λ a. x a *ℚ x a) *ℚ sumℚ s (λ a. y a *ℚ y a) ≤ℚ units (rootOf s g h .high) *ℚ units (rootOf s g h .high)

@@ -1,6 +1,6 @@
 -- Laws of the operations that later proofs cite. Proved in proofs/Laws.antt: `laws`.
 use mathlib.Core.Path.{_≡_}
-use mathlib.Core.Bool.{Bool, true}
+use mathlib.Core.Bool.{true}
 use mathlib.Core.List.{List}
 use mathlib.Core.Logic.{_⊎_}
 use Prim.Native.Nat.{ℕ, _<_}
@@ -16,7 +16,7 @@ use Rattle.range.specs.Sums.{has, at, productsOf, squaresOf, rootOf}
 abbrev pub Settled : Range → Type 0
 Settled r = (isValid r ≡ true) ⊎ (r ≡ over)
 
--- Where b is valid, a is too and lies inside b.
+-- Narrower: where b is valid, a is too and lies inside b.
 infix 4 _⊑_
 pub record Inside (a b : Range) : Type 0 where
   pub valid : T (isValid a)
@@ -26,6 +26,7 @@ pub record Inside (a b : Range) : Type 0 where
 pub record _⊑_ (a b : Range) : Type 0 where
   pub inside : T (isValid b) → Inside a b
 
+-- Lists of ranges of which those of the factors in s are.
 pub record Narrower (s : ℕ) (f g : List Range) : Type 0 where
   pub each : (a : ℕ) → a < 8 → T (has s a) → at f a ⊑ at g a
 

@@ -1,4 +1,5 @@
--- 01, "Range arithmetic", in its order; then what the operations mean, their laws, and 01's figures.
+-- 01, "Range arithmetic", in its order: Limit, Arithmetic, Power, Sums. Apart from these, Steps: what private functions give. Then what is
+-- proved of the operations: Inclusion (what they mean for the numbers inside), Laws, Figures.
 pub mod Limit
 pub mod Arithmetic
 pub mod Power

@@ -1,4 +1,5 @@
--- Ranges of whole numbers of units, and which of them count: 01, "What the engine takes and gives" and the head of "Range arithmetic".
+-- Ranges of whole numbers of units, and which of them count: 01, "What the engine takes and gives", the head of "Range arithmetic", and
+-- refusals 9 and 12.
 use mathlib.Core.Bool.{Bool, _&&_, cond}
 use lib.IntN.{ℤ, pos, negsuc}
 use lib.Signed.{leZ}
@@ -24,18 +25,19 @@ oneRange = fromTo (pos 10000) (pos 10000)
 abbrev pub wholeRange : Range
 wholeRange = fromTo least most
 
--- The answer that is no range: an end has passed the limit somewhere on the way to it (refusal 12).
+-- The answer that is no range: an end has passed the limit on the way to it (refusal 12: "an end of a range produced by a step below passes
+-- the limit").
 abbrev pub over : Range
 over = fromTo (pos 1) (pos 0)
 
--- The ends in order and within the limit.
+-- The ends in order and within the limit, which they may reach (refusal 9: "a low end above its high end, or an end beyond the limit").
 unfoldable pub isValid : Range → Bool
 isValid r = leZ least (r .low) && (leZ (r .low) (r .high) && leZ (r .high) most)
 
 unfoldable pub bothValid : Range → Range → Bool
 bothValid a b = isValid a && isValid b
 
--- A result counts only within the limit.
+-- A result counts only within the limit (refusal 12).
 unfoldable pub kept : Range → Range
 kept r = cond (isValid r) r over
 

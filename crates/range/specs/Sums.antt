@@ -1,5 +1,5 @@
--- Sums over the factors of a set: 01, "Range arithmetic" ("A sum over the factors of a set is one step, so only its total counts, and no product
--- or square summed in it") and the sums in Sq and Cross of "Sets and bends".
+-- Sums over the factors of a set: 01, "Range arithmetic" ("A sum over the factors of a set is one step, so only its total counts, and no
+-- product or square summed in it"), for the sums in Sq and Cross of "Sets and bends".
 use mathlib.Core.Bool.{Bool, true, _&&_, _||_, not, cond}
 use mathlib.Core.List.{List}
 use Prim.Native.Nat.{ℕ, zero, suc, _*_, _/_, _%_, _^_}
@@ -59,10 +59,13 @@ endsSquares s g = fromTo (pos 0) (squareSum s g)
 unfoldable pub squaresOf : ℕ → List Range → Range
 squaresOf s g = cond (validOver s g) (kept (endsSquares s g)) over
 
--- Cross: "[−β, β], where β is the square root, rounded up, of the product of the two sums used in Sq; here β counts as an end and the two sums do
--- not". The root of x units times y units is √(x·y) units.
+-- Cross: "[−β, β], where β is the square root, rounded up, of the product of the two sums used in Sq; here β counts as an end and the two
+-- sums do not". The root of x units times y units is √(x·y) units.
 unfoldable pub rootSum : ℕ → List Range → List Range → ℤ
 rootSum s g h = pos (ceilSqrt (natAbs (squareSum s g) * natAbs (squareSum s h)))
 
+abbrev pub endsRoot : ℕ → List Range → List Range → Range
+endsRoot s g h = fromTo (negℤ (rootSum s g h)) (rootSum s g h)
+
 unfoldable pub rootOf : ℕ → List Range → List Range → Range
-rootOf s g h = cond (validOver s g && validOver s h) (kept (fromTo (negℤ (rootSum s g h)) (rootSum s g h))) over
+rootOf s g h = cond (validOver s g && validOver s h) (kept (endsRoot s g h)) over

@@ -1,6 +1,6 @@
 // Ranges of whole numbers of units: one unit is 1/10,000, and an end is at most 2,000,000,000 units, either sign.
-// Every operation is total. A result with an end beyond the limit is `OVER`, which is no range, and an operand that is no valid range gives `OVER`
-// too: so a caller tests the last of many operations, and not each.
+// Every operation is total. A result with an end beyond the limit is `OVER`, which is no range, and an operand that is no valid range gives
+// `OVER` too: so a caller tests the last of many operations, and not each.
 ghost use mathlib.Core.Path.{_≡_};
 ghost use mathlib.Core.Bool.{true};
 ghost use Prim.Native.Nat.{_≤_};
@@ -8,16 +8,13 @@ ghost use lib.IntN.{pos, natAbs};
 ghost use lib.Signed.{ltZ};
 ghost use Rattle.exact.specs.Div.{floorDiv, ceilDiv};
 ghost use Rattle.range.specs.Limit.{fromTo, isValid, bothValid, kept};
-ghost use Rattle.range.specs.Arithmetic.{lesserOf, greaterOf, endsSum, sumOf, endsNeg, negOf, timesOf, spreadOf, scaledOf, endsProduct, productOf, inverseOf, endsHull, hullOf};
+ghost use Rattle.range.specs.Arithmetic.{lesserOf, greaterOf, endsSum, sumOf, endsNeg, negOf, timesOf};
+ghost use Rattle.range.specs.Arithmetic.{spreadOf, scaledOf, endsProduct, productOf, inverseOf, endsHull, hullOf};
 ghost use Rattle.range.specs.Steps.{Small, endsBy, sortedOf, endsOver, invAbove, invBelow, upTo};
 
 mod power; // power.rt: the power of a range
 mod root; // root.rt: the square root of a product, rounded up
 mod sums; // sums.rt: sums over the factors of a set
-
-
-
-
 
 pub struct Range {
     pub low: i64,

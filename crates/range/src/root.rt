@@ -1,4 +1,5 @@
-// The square root of a product, rounded up, as the end of a range. A guess is made quickly and trusted for nothing; a search from there is exact.
+// The square root of a product, rounded up, as the end of a range. A guess is made quickly and trusted for nothing; a search from there is
+// exact.
 ghost use mathlib.Core.Path.{_≡_};
 ghost use Prim.Native.Nat.{_≤_, _*_};
 ghost use Rattle.exact.specs.Sqrt.{ceilSqrt};
@@ -72,8 +73,8 @@ fn root_up(x: u64) -> u64
     least_root(x, root_above(x, near_root(x)))
 }
 
-// From −β to β, where β is the square root of x·y, rounded up. x·y may not fit 64 bits: where it is beyond the limit's square, which a division
-// tells, β is beyond the limit.
+// From −β to β, where β is the square root of x·y, rounded up. x·y may not fit 64 bits: where it is beyond the limit's square, which a
+// division tells, β is beyond the limit.
 pub fn around_root(x: u64, y: u64) -> Range
     ensures { λ r. ⌜ r ≡ aroundRoot x y ⌝ }
 {

@@ -1,4 +1,5 @@
-// Sums over the factors of a set: one step, of which only the total counts. A set is a mask whose bit a stands for the factor a, counted from 0.
+// Sums over the factors of a set: one step, of which only the total counts. A set is a mask whose bit a stands for the factor a, counted
+// from 0.
 ghost use mathlib.Core.Path.{_≡_};
 ghost use mathlib.Core.Bool.{true, _&&_, cond};
 ghost use lib.IntN.{pos, natAbs};
@@ -110,7 +111,10 @@ impl Range {
         ensures { λ r. ⌜ r ≡ rootOf set g h ⌝ }
     {
         if both_over(set, g, h) {
-            around_root(ends_squares(set, g).magnitude(), ends_squares(set, h).magnitude())
+            around_root(
+                ends_squares(set, g).magnitude(),
+                ends_squares(set, h).magnitude(),
+            )
         } else {
             Range::OVER
         }

@@ -1,14 +1,9 @@
 -- `range::Range::across_even` meets its contract. Assumes nothing.
 use borrow.Author.Needs.{needs}
-use mathlib.Core.Path.{_∙_, sym, ap, ap₂, refl}
-use lib.IntN.{pos}
-use lib.Signed.{leZ}
+use mathlib.Core.Path.{refl, _∙_, ap}
 use Rattle.range.specs.declared.Range.{Range}
-use Rattle.range.specs.Limit.{isValid}
-use Rattle.range.specs.Arithmetic.{endsHull}
 use Rattle.range.specs.Power.{powAbove}
-use Rattle.range.specs.Steps.{upTo}
-use Rattle.range.proofs.Climbing.{across-magnitude, across-even}
+use Rattle.range.proofs.Climbing.{magnitudes, farther-made, across-magnitude, across-even}
 use Rattle.range.proofs.Range.across_even.Statement.{statement}
 use Rattle.range.proofs.Range.across_even.Tie as tie
 
@@ -17,8 +12,10 @@ power-above-requires c κs =
     let zero2 = c .before in
     let zero = zero2 .before in
     let start = zero .before .before in
-    let m = c .ends-hull .ensures ∙ ap₂ endsHull (zero .from-zero .ensures ∙ ap (λ (r : Range). upTo (r .high)) (zero .before .ends-negated .ensures)) (zero2 .from-zero2 .ensures) in
-    record { valid = ap isValid m ∙ across-magnitude (start .args .self) (start .pre .valid) (start .pre .left); sign = ap (λ (r : Range). leZ (pos 0) (r .low)) m; some = start .pre .some }
+    let a = start .args .self in
+    magnitudes
+    (farther-made a (zero .before .ends-negated .ensures) (zero .from-zero .ensures) (zero2 .from-zero2 .ensures) (c .ends-hull .ensures))
+    (across-magnitude a (start .pre .valid) (start .pre .left)) refl (start .pre .some)
 
 returns : tie.Need-returns
 returns c =
@@ -26,11 +23,12 @@ returns c =
     let zero2 = hull .before in
     let zero = zero2 .before in
     let start = zero .before .before in
+    let a = start .args .self in
     let e = start .args .e in
-    across-even (start .args .self) (start .pre .valid) e (start .pre .some) (start .pre .left)
+    across-even a (start .pre .valid) e (start .pre .some) (start .pre .left)
     (c .power-above .ensures
     ∙ ap (λ (r : Range). powAbove r e)
-    (hull .ends-hull .ensures ∙ ap₂ endsHull (zero .from-zero .ensures ∙ ap (λ (r : Range). upTo (r .high)) (zero .before .ends-negated .ensures)) (zero2 .from-zero2 .ensures)))
+    (farther-made a (zero .before .ends-negated .ensures) (zero .from-zero .ensures) (zero2 .from-zero2 .ensures) (hull .ends-hull .ensures)))
 
 pub across-even-spec : {M : Type 1} → statement M
 across-even-spec =

@@ -1,14 +1,11 @@
 -- `range::Range::power_below` meets its contract. Assumes nothing.
 use borrow.Author.Needs.{needs}
 use mathlib.Core.Path.{_∙_, sym, ap}
-use lib.IntN.{pos}
-use lib.Signed.{leZ}
 use Rattle.range.specs.declared.Range.{Range}
-use Rattle.range.specs.Limit.{isValid}
 use Rattle.range.specs.Arithmetic.{negOf}
 use Rattle.range.specs.Power.{powAbove}
 use Rattle.range.proofs.Fitting.{neg-valid}
-use Rattle.range.proofs.Climbing.{neg-above, below-even, below-odd}
+use Rattle.range.proofs.Climbing.{magnitudes, neg-above, below-even, below-odd}
 use Rattle.range.proofs.Range.power_below.Statement.{statement}
 use Rattle.range.proofs.Range.power_below.Tie as tie
 
@@ -16,8 +13,7 @@ power-above-requires : tie.Need-power-above-requires
 power-above-requires c κs =
     let p = c .before .pre in
     let a = c .before .args .self in
-    let m = c .ends-negated .ensures in
-    record { valid = ap isValid m ∙ neg-valid a (p .valid); sign = ap (λ (r : Range). leZ (pos 0) (r .low)) m ∙ neg-above a (p .sign); some = p .some }
+    magnitudes (c .ends-negated .ensures) (neg-valid a (p .valid)) (neg-above a (p .sign)) (p .some)
 
 returns : tie.Need-returns
 returns c =

@@ -20,4 +20,10 @@ returns-3 c = search (needs, branching)
 pub power-by-sign-spec : {M : Type 1} → statement M
 power-by-sign-spec =
     tie.close
-    (tie.spec (λ c κs. search (needs, branching)) (λ c κs. search (needs, branching)) (λ c κs. search (needs, branching)) returns returns-2 returns-3)
+    (tie.spec
+    (λ c κs. search (needs, branching))
+    (λ c κs. search (needs, branching))
+    (λ c κs. search (needs, branching))
+    returns
+    returns-2
+    returns-3)

@@ -1,7 +1,6 @@
 -- `range::Range::root_of_squares` meets its contract. Assumes nothing.
 use borrow.Author.Needs.{needs}
 use mathlib.Core.Path.{_∙_, sym, ap, ap₂}
-use Prim.Native.Nat.{ℕ}
 use lib.IntN.{pos, natAbs}
 use lib.Signed.{leZ}
 use Rattle.range.specs.declared.Range.{Range}

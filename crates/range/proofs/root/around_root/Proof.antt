@@ -1,7 +1,6 @@
 -- `range::root::around_root` meets its contract. Assumes nothing.
 use borrow.Author.Needs.{needs}
-use mathlib.Core.Path.{_≡_, sym, _∙_, ap}
-use Prim.Native.Nat.{ℕ, _*_, _≤_}
+use mathlib.Core.Path.{sym}
 use native.Mathlib.Omega.{arith}
 use native.Mathlib.Nat.{zero-mul, mul-zero}
 use Rattle.range.proofs.Squares.{around-over, around-none, around-made, minus-fits, product-above, product-within, root-over}
@@ -30,4 +29,6 @@ returns-4 : tie.Need-returns-4
 returns-4 c = around-made _ (c .root-up .ensures .1) _ (c .root-up .ensures .0)
 
 pub around-root-spec : {M : Type 1} → statement M
-around-root-spec = tie.close (tie.spec returns returns-2 (λ c. search needs) returns-3 mul-root-up root-up-requires (λ c. search needs) sub-t7 returns-4)
+around-root-spec =
+    tie.close
+    (tie.spec returns returns-2 (λ c. search needs) returns-3 mul-root-up root-up-requires (λ c. search needs) sub-t7 returns-4)

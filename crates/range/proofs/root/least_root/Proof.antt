@@ -1,10 +1,8 @@
 -- `range::root::least_root` meets its contract: the square of the number is never below x. Assumes nothing.
 use borrow.Author.Needs.{needs}
-use Prim.Native.Nat.{ℕ, _≤_, _<_, _*_, _-_}
+use Prim.Native.Nat.{_≤_, _*_}
 use native.Mathlib.Omega.{arith}
-use native.Mathlib.Nat.{mul-le-mul}
-use Rattle.exact.proofs.Sqrt.{ceilSqrt, ceil-root, root-lt, ceil-root-unique}
-use Rattle.range.proofs.Squares.{not-zero, least-square}
+use Rattle.range.proofs.Squares.{not-zero, least-square, product-fits}
 use Rattle.range.proofs.root.least_root.Statement.{statement}
 use Rattle.range.proofs.root.least_root.Tie as tie
 
@@ -17,20 +15,8 @@ abbrev μ-loop : tie.MeasureT-loop
 loop-holds : tie.Need-loop-holds Inv-loop μ-loop
 loop-holds c = (search needs, search needs, not-zero _ _ (c .pre .0) (c .pre .1 .1))
 
-sub-loop : tie.Need-sub-loop Inv-loop μ-loop
-sub-loop c = search needs
-
-sub-loop-2 : tie.Need-sub-loop-2 Inv-loop μ-loop
-sub-loop-2 c = search needs
-
 mul-loop : tie.Need-mul-loop Inv-loop μ-loop
-mul-loop c = let h : c .loop .r - 1 ≤ 2000000000 = omega arith in omega (arith, mul-le-mul h h)
-
-sub-r : tie.Need-sub-r Inv-loop μ-loop
-sub-r c = search needs
-
-loop-less : tie.Need-loop-less Inv-loop μ-loop
-loop-less c = search needs
+mul-loop c = product-fits _ _ (omega arith) (omega arith)
 
 loop-again : tie.Need-loop-again Inv-loop μ-loop
 loop-again c = (search needs, c .loop-test .taken, not-zero _ _ (c .before .before .pre .0) (c .loop-test .taken))
@@ -41,14 +27,5 @@ returns c = (least-square _ _ (c .before .loop .inv .2) (c .before .loop .inv .1
 pub least-root-spec : {M : Type 1} → statement M
 least-root-spec =
     tie.close
-    (tie.spec
-    Inv-loop
-    μ-loop
-    loop-holds
-    sub-loop
-    sub-loop-2
-    mul-loop
-    sub-r
-    loop-less
-    loop-again
+    (tie.spec Inv-loop μ-loop loop-holds (λ c. search needs) (λ c. search needs) mul-loop (λ c. search needs) (λ c. search needs) loop-again
     returns)

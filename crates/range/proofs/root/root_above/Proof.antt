@@ -1,8 +1,8 @@
 -- `range::root::root_above` meets its contract: the number stays at or below 2,000,000,000, whose square is not below x. Assumes nothing.
 use borrow.Author.Needs.{needs}
-use Prim.Native.Nat.{ℕ, _≤_, _<_, _*_, _-_}
+use Prim.Native.Nat.{_≤_, _<_, _-_}
 use native.Mathlib.Omega.{arith}
-use native.Mathlib.Nat.{mul-le-mul}
+use Rattle.range.proofs.Squares.{product-fits}
 use Rattle.exact.proofs.Sqrt.{root-lt}
 use Rattle.range.proofs.root.root_above.Statement.{statement}
 use Rattle.range.proofs.root.root_above.Tie as tie
@@ -17,7 +17,7 @@ loop-holds : tie.Need-loop-holds Inv-loop μ-loop
 loop-holds c = search needs
 
 mul-loop : tie.Need-mul-loop Inv-loop μ-loop
-mul-loop c = omega (arith, mul-le-mul (c .loop .inv) (c .loop .inv))
+mul-loop c = product-fits _ _ (c .loop .inv) (c .loop .inv)
 
 add-r : tie.Need-add-r Inv-loop μ-loop
 add-r c = search needs

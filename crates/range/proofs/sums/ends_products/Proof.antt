@@ -1,13 +1,10 @@
 -- `range::sums::ends_products` meets its contract. Assumes nothing.
 use borrow.Author.Needs.{needs}
-use mathlib.Core.Path.{_≡_, refl}
-use Prim.Native.Nat.{_-_}
 use native.Mathlib.Omega.{arith}
-use lib.IntN.{pos}
-use lib.ListN.{length}
 use Rattle.range.specs.Arithmetic.{endsProduct}
 use Rattle.range.specs.Sums.{at, endsProducts}
-use Rattle.range.proofs.Scanning.{Summed, summed-start, summed-next, summed-end, scan-index, member-valid, total-small, term-small, low-few, high-few}
+use Rattle.range.proofs.Scanning.{Summed, summed-start, summed-next, summed-end, scan-index}
+use Rattle.range.proofs.Scanning.{member-valid, total-small, term-small, low-few, high-few}
 use Rattle.range.proofs.sums.ends_products.Statement.{statement}
 use Rattle.range.proofs.sums.ends_products.Tie as tie
 

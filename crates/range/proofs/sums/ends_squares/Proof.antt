@@ -1,12 +1,10 @@
 -- `range::sums::ends_squares` meets its contract. Assumes nothing.
 use borrow.Author.Needs.{needs}
-use mathlib.Core.Path.{_≡_, refl}
-use Prim.Native.Nat.{_-_}
 use native.Mathlib.Omega.{arith}
 use lib.IntN.{pos}
-use lib.ListN.{length}
 use Rattle.range.specs.Sums.{at, largestSquare}
-use Rattle.range.proofs.Scanning.{Summed, summed-start, summed-next, scan-index, member-valid, total-small, term-small, zero-few, square-few, squares-end}
+use Rattle.range.proofs.Scanning.{Summed, summed-start, summed-next, scan-index, member-valid}
+use Rattle.range.proofs.Scanning.{total-small, term-small, zero-few, square-few, squares-end}
 use Rattle.range.proofs.sums.ends_squares.Statement.{statement}
 use Rattle.range.proofs.sums.ends_squares.Tie as tie
 

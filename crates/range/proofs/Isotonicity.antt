@@ -2,29 +2,34 @@
 use mathlib.Core.Bool.{Bool, true, false, _&&_, not, cond}
 use mathlib.Core.List.{List}
 use mathlib.Core.Logic.{inl, inr}
-use Prim.Native.Nat.{ℕ, zero, suc, _≤_, _<_, zero-le}
+use Prim.Native.Nat.{ℕ, zero, suc, _<_, zero-le}
 use native.Mathlib.Nat as N
-use lib.Dec.{T, lit<}
-use lib.IntN.{ℤ, pos, negsuc, negℤ, natAbs, _*ℤ_}
-use lib.Signed.{leZ, _≤ℤ_, _<ℤ_, ≤ℤ-refl, <ℤ-≤ℤ-trans, leZ-yes}
+use lib.Dec.{T}
+use lib.IntN.{ℤ, pos, negℤ, _*ℤ_}
+use lib.Signed.{leZ, _≤ℤ_, ≤ℤ-refl, <ℤ-≤ℤ-trans, leZ-yes}
 use Rattle.exact.specs.Int.{ℤ-ordered}
 use Rattle.algebra.proofs.Ordered as Ord
-use Rattle.exact.specs.Int.{ints, neg-dif, +ℤ-mono, neg-anti, leZ-no, pos-≤, ≤-pos, ≤ℤ-trans, ≤ℤ-<ℤ-trans}
+use Rattle.exact.specs.Int.{ints, neg-dif, +ℤ-mono, neg-anti, pos-≤, natAbs-mono, ≤ℤ-trans, ≤ℤ-<ℤ-trans}
 use Rattle.exact.proofs.Div.{floor-mono, ceil-mono, floor≤ceil}
 use Rattle.exact.proofs.Sqrt.{ceil-root-mono}
 use Rattle.range.specs.declared.Range.{Range}
 use Rattle.range.specs.Limit.{fromTo, oneRange, over, isValid, kept}
-use Rattle.range.specs.Arithmetic.{lesserOf, greaterOf, leastProduct, greatestProduct, endsSum, endsNeg, endsTimes, endsProduct, endsInverse, endsHull, holdsZero, sumOf, negOf, timesOf, productOf, inverseOf, hullOf}
+use Rattle.range.specs.Arithmetic.{lesserOf, greaterOf, leastProduct, greatestProduct, endsSum, endsNeg, endsTimes, endsProduct}
+use Rattle.range.specs.Arithmetic.{endsInverse, endsHull, holdsZero, sumOf, negOf, timesOf, productOf, inverseOf, hullOf}
 use Rattle.range.specs.Power.{chain, upsWithin, isEven, powOf}
 use Rattle.range.specs.Sums.{has, at, validOver, endsProducts, productsOf, largestSquare, squareSum, squaresOf, rootSum, rootOf}
 use Rattle.range.specs.Laws.{_⊑_, Narrower, Isotonicity}
 use Rattle.range.proofs.Valid.{and-left, and-right, and-both, ends-of, sticky₁-of}
-use Rattle.range.proofs.Extremes.{extremes, least-any, greatest-any, lesser-any, greater-any, lesser-left, lesser-right, greater-left, greater-right}
+use Rattle.range.proofs.Extremes.{end-products, least-product, greatest-product, lesser-any}
+use Rattle.range.proofs.Extremes.{greater-any, lesser-left, lesser-right, greater-left, greater-right}
 use Rattle.range.proofs.Powers.{ten-thousand, Grows, chain-high, down-down, down-up, up-up}
-use Rattle.range.proofs.PowerForms.{aboveZero, belowZero, nearest, farthest, powEven, oddWithin, powOdd, powOfValid, pow-form, ups-mono, above-mono, below-anti, nearest-farthest}
-use Rattle.range.proofs.Quotients.{OneSign, floorQuot-anti, ceilQuot-anti, floorQuot≤ceilQuot}
-use Rattle.range.proofs.SumOver.{sumOver-mono, sumOver-nonneg, members-valid, valid-over, squareSum-nonneg}
-use Rattle.range.proofs.Within.{Within, within-of, within-⊑, ⊑-refl, if-isotone, unless-isotone, kept-isotone, sticky₁-isotone, sticky₂-isotone}
+use Rattle.range.proofs.PowerForms.{aboveZero, belowZero, nearest, farthest, powEven, oddWithin, powOdd}
+use Rattle.range.proofs.PowerForms.{powOfValid, pow-form, ups-mono, above-mono, below-anti, nearest-farthest}
+use Rattle.exact.proofs.Div.{OneSign, floorQuot-anti, ceilQuot-anti, floorQuot≤ceilQuot}
+use Rattle.range.proofs.Inverting.{one-sign}
+use Rattle.range.proofs.SumOver.{sumOver-mono, members-valid, valid-over, squareSum-nonneg}
+use Rattle.range.proofs.Within.{Within, within-of, within-⊑, ⊑-refl, if-isotone}
+use Rattle.range.proofs.Within.{unless-isotone, kept-isotone, sticky₁-isotone, sticky₂-isotone}
 
 -- ---- sum, negation, multiple, hull
 module _ {a b c d : Range} (m : Within a c) (n : Within b d) where
@@ -58,7 +63,7 @@ module _ {a b c d : Range} (m : Within a c) (n : Within b d) where
   between : {x y : ℤ} → a .low ≤ℤ x → x ≤ℤ a .high → b .low ≤ℤ y → y ≤ℤ b .high
       → (leastProduct c d ≤ℤ (x *ℤ y)) × ((x *ℤ y) ≤ℤ greatestProduct c d)
   between p q r s =
-      let e = extremes (c .low *ℤ d .low) (c .low *ℤ d .high) (c .high *ℤ d .low) (c .high *ℤ d .high) in
+      let e = end-products c d in
       let p′ = ≤ℤ-trans (m .low) p in
       let q′ = ≤ℤ-trans q (m .high) in
       let r′ = ≤ℤ-trans (n .low) r in
@@ -78,21 +83,14 @@ module _ {a b c d : Range} (m : Within a c) (n : Within b d) where
       let lh = between al (m .order) (n .order) bh in
       let hl = between (m .order) ah bl (n .order) in
       let hh = between (m .order) ah (n .order) bh in
-      let e = extremes (a .low *ℤ b .low) (a .low *ℤ b .high) (a .high *ℤ b .low) (a .high *ℤ b .high) in
+      let e = end-products a b in
       record {
-        low = floor-mono ten-thousand (least-any _ _ _ _ (λ z. leastProduct c d ≤ℤ z) (ll .0) (lh .0) (hl .0) (hh .0));
+        low = floor-mono ten-thousand (least-product a b (λ z. leastProduct c d ≤ℤ z) (ll .0) (lh .0) (hl .0) (hh .0));
         order = ≤ℤ-trans (floor≤ceil (leastProduct a b) ten-thousand) (ceil-mono ten-thousand (≤ℤ-trans (e .low-1) (e .high-1)));
-        high = ceil-mono ten-thousand (greatest-any _ _ _ _ (λ z. z ≤ℤ greatestProduct c d) (ll .1) (lh .1) (hl .1) (hh .1));
+        high = ceil-mono ten-thousand (greatest-product a b (λ z. z ≤ℤ greatestProduct c d) (ll .1) (lh .1) (hl .1) (hh .1));
       }
 
 -- ---- inverse
-one-sign : (x y : ℤ) → T (not (leZ x (pos 0) && leZ (pos 0) y)) → OneSign x y
-one-sign x y t = go (leZ x (pos 0)) (leZ (pos 0) y) leZ-no leZ-no t
-  where
-    go : (p q : Bool) → (T (not p) → pos 0 <ℤ x) → (T (not q) → y <ℤ pos 0) → T (not (p && q)) → OneSign x y
-    go true q f g t = inr (g t)
-    go false q f g t = inl (f tt)
-
 -- a part of a range that is on one side of 0
 part-sign : {x y u v : ℤ} → x ≤ℤ u → v ≤ℤ y → OneSign x y → OneSign u v
 part-sign h k (inl o) = inl (<ℤ-≤ℤ-trans o h)
@@ -108,11 +106,12 @@ module _ {a c : Range} (w : Within a c) where
   inverse-within : T (not (holdsZero c)) → Within (endsInverse a) (endsInverse c)
   unfolding endsInverse
   inverse-within t =
-      let o = one-sign (c .low) (c .high) t in
+      let o = one-sign c t in
+      let n : pos 0 ≤ℤ pos 100000000 = pos-≤ zero-le in
       record {
-        low = floorQuot-anti 100000000 (w .high) (part-sign (≤ℤ-trans (w .low) (w .order)) (≤ℤ-refl (c .high)) o);
-        order = floorQuot≤ceilQuot 100000000 (w .order) (part-sign (w .low) (w .high) o);
-        high = ceilQuot-anti 100000000 (w .low) (part-sign (≤ℤ-refl (c .low)) (≤ℤ-trans (w .order) (w .high)) o);
+        low = floorQuot-anti n (w .high) (part-sign (≤ℤ-trans (w .low) (w .order)) (≤ℤ-refl (c .high)) o);
+        order = floorQuot≤ceilQuot n (w .order) (part-sign (w .low) (w .high) o);
+        high = ceilQuot-anti n (w .low) (part-sign (≤ℤ-refl (c .low)) (≤ℤ-trans (w .order) (w .high)) o);
       }
 
 inverse-isotone : {a c : Range} → a ⊑ c → inverseOf a ⊑ inverseOf c
@@ -191,7 +190,10 @@ record MembersWithin (s : ℕ) (f h : List Range) : Type 0 where
 members-of : {s : ℕ} {f h : List Range} → Narrower s f h → T (validOver s h) → MembersWithin s f h
 members-of {s} {f} {h} n t =
     let v = members-valid s h t in
-    record { valid = valid-over s f (λ a l u. n .each a l u .inside (v a l u) .valid); within = λ a l u. within-of (n .each a l u) (v a l u) }
+    record {
+      valid = valid-over s f (λ a l u. n .each a l u .inside (v a l u) .valid);
+      within = λ a l u. within-of (n .each a l u) (v a l u);
+    }
 
 -- a test of the members of one list, and of two, before a total that counts
 one-isotone : {s : ℕ} {f h : List Range} {x y : Range} → (MembersWithin s f h → Within x y) → Narrower s f h
@@ -215,7 +217,8 @@ two-isotone {s} {f} {g} {h} {k} w m n =
     right : T (validOver s h && validOver s k) → MembersWithin s g k
     right t = members-of n (and-right (validOver s h) (validOver s k) t)
 
-products-within : {s : ℕ} {f g h k : List Range} → MembersWithin s f h → MembersWithin s g k → Within (endsProducts s f g) (endsProducts s h k)
+products-within : {s : ℕ} {f g h k : List Range} → MembersWithin s f h → MembersWithin s g k
+    → Within (endsProducts s f g) (endsProducts s h k)
 unfolding endsProducts
 products-within {s} {f} {g} {h} {k} m n =
     record {
@@ -246,15 +249,12 @@ squares-within : {s : ℕ} {f g : List Range} → MembersWithin s f g → Within
 squares-within {s} {f} m = record { low = ≤ℤ-refl (pos 0); order = squareSum-nonneg s f; high = squares-mono m }
 
 -- ---- root
-natAbs-mono : {x y : ℤ} → pos 0 ≤ℤ x → x ≤ℤ y → natAbs x ≤ natAbs y
-natAbs-mono {x = pos a} {y = pos b} p h = ≤-pos h
-natAbs-mono {x = pos a} {y = negsuc b} p h = absurd (h .le)
-natAbs-mono {x = negsuc a} p h = absurd (p .le)
-
 root-mono : {s : ℕ} {f g h k : List Range} → MembersWithin s f h → MembersWithin s g k → rootSum s f g ≤ℤ rootSum s h k
 unfolding rootSum
 root-mono {s} {f} {g} m n =
-    pos-≤ (ceil-root-mono (N.mul-le-mul (natAbs-mono (squareSum-nonneg s f) (squares-mono m)) (natAbs-mono (squareSum-nonneg s g) (squares-mono n))))
+    pos-≤ (ceil-root-mono (N.mul-le-mul
+    (natAbs-mono (squareSum-nonneg s f) (squares-mono m))
+    (natAbs-mono (squareSum-nonneg s g) (squares-mono n))))
 
 root-nonneg : (s : ℕ) (f g : List Range) → pos 0 ≤ℤ rootSum s f g
 unfolding rootSum

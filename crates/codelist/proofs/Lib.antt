@@ -1,0 +1,13 @@
+pub mod Laws
+pub mod Numerals
+pub mod LineTexts
+pub mod Checks
+pub mod Lengths
+pub mod Steps
+pub mod Loop
+pub mod WellFormed
+pub mod Lines
+pub mod Resumed
+pub mod Classified
+pub mod Accepted
+pub mod Refused

@@ -1,0 +1,234 @@
+-- An operation line is read exactly where its text stands.
+use Prim.Native.Nat.{ℕ, _≤_, _<_}
+use mathlib.Core.Bool.{Bool, true, cond, _&&_}
+use mathlib.Core.List.{List, [], _∷_, _++_, append-assoc}
+use mathlib.Core.Logic.{_⊎_, inl, inr, ⊎-elim}
+use mathlib.Core.Path.{_≡_, refl, sym, ap, subst, _∙_}
+use native.Mathlib.Decide.{ℕ-discrete}
+use native.Mathlib.Omega.{arith}
+use lib.Dec.{ltb, eqb, lit<}
+use borrow.Author.Tests.{eq-eqb, ne-eqb, ltb-true}
+use Rattle.codelist.specs.declared.Line.{Line}
+use Rattle.codelist.specs.declared.Line.the-variants.{Add, Mul, AddC, MulC, Pow, Inv}
+use Rattle.codelist.specs.declared.Numeral.{Numeral}
+use Rattle.codelist.specs.declared.Word.{Word}
+use Rattle.codelist.specs.declared.Word.the-variants as word
+use Rattle.codelist.specs.Text.{IsNumeral, HasNumerals, FirstAt, LineAt, numeralText, two, firstText, lineText, factors→, add→}
+use Rattle.codelist.specs.Text.{mul→, addc→, mulc→, pow→, inv→}
+use Rattle.codelist.specs.Read.{Read, good, bad, next, _or_, peek, rest, digit, numeral, field, literal, named, keyword, pair, both}
+use Rattle.codelist.specs.Read.{operands, operationLine, firstLine}
+use Rattle.codelist.proofs.Laws.{both-true}
+use Rattle.codelist.proofs.Numerals.{NumeralAt, numeral-sound, numeral-complete, peek-cons, never}
+
+-- What a reader after another one gave comes from what the first gave
+pub next-inv : {A B : Type 0} (a : Read A) (f : A → List ℕ → Read B) (b : B) (t : List ℕ) → next a f ≡ good b t
+    → (v : A) × (u : List ℕ) × (a ≡ good v u) × (f v u ≡ good b t)
+next-inv (good v u) f b t e = (v, u, refl, e)
+next-inv bad f b t e = never b t e
+
+or-inv : {A : Type 0} (a b : Read A) (v : A) (t : List ℕ) → (a or b) ≡ good v t → (a ≡ good v t) ⊎ (b ≡ good v t)
+or-inv (good x u) b v t e = inl e
+or-inv bad b v t e = inr e
+
+pub field-sound : (e : ℕ) (s : List ℕ) (w : Numeral) (t : List ℕ) → e < 256 → field e s ≡ good w t → NumeralAt s w (e ∷ t)
+unfolding field
+field-sound e s w t h p = go (next-inv (numeral s) (λ v u. cond (eqb (peek u) e) (good v (rest u)) bad) w t p)
+  where
+    go : (v : Numeral) × (u : List ℕ) × (numeral s ≡ good v u) × (cond (eqb (peek u) e) (good v (rest u)) bad ≡ good w t)
+        → NumeralAt s w (e ∷ t)
+    go (v, u, a, b) = at (ℕ-discrete (peek u) e)
+      where
+        at : Dec (peek u ≡ e) → NumeralAt s w (e ∷ t)
+        at (no n) = never w t (simp (ne-eqb (peek u) e n) at b)
+        at (yes y) =
+            let f = simp (eq-eqb (peek u) e y) at b in
+            let x : v ≡ w = cc f in
+            let z : rest u ≡ t = cc f in
+            numeral-sound s w (e ∷ t) (a ∙ rw (x, peek-cons u e y h, z))
+
+pub field-complete : (e : ℕ) (w : Numeral) (t : List ℕ) → IsNumeral w → 10 ≤ digit e → field e (numeralText w ++ (e ∷ t)) ≡ good w t
+unfolding field peek rest
+field-complete e w t f g = simp (numeral-complete w (e ∷ t) f g, eq-eqb e e refl)
+
+-- Words
+abbrev pub allBytes : List ℕ → Bool
+allBytes [] = true
+allBytes (b ∷ w) = ltb b 256 && allBytes w
+
+pub literal-sound : (w s : List ℕ) (x : Unit) (t : List ℕ) → allBytes w ≡ true → literal w s ≡ good x t → s ≡ w ++ t
+unfolding literal
+literal-sound [] s x t h e = cc
+literal-sound (b ∷ w) s x t h e = go (ℕ-discrete (peek s) b) (literal-sound w (rest s) x t)
+  where
+    go : Dec (peek s ≡ b) → (allBytes w ≡ true → literal w (rest s) ≡ good x t → rest s ≡ w ++ t) → s ≡ b ∷ (w ++ t)
+    go (no n) ih = never x t (simp (ne-eqb (peek s) b n) at e)
+    go (yes y) ih =
+        let small = both-true (ltb b 256) (allBytes w) h in
+        peek-cons s b y (ltb-true b 256 (small .0)) ∙ ap (λ (l : List ℕ). b ∷ l) (ih (small .1) (simp (eq-eqb (peek s) b y) at e))
+
+-- The word of each kind of line, with its tab
+abbrev wordText : Word → List ℕ
+wordText word.Add = add→
+wordText word.Mul = mul→
+wordText word.AddC = addc→
+wordText word.MulC = mulc→
+wordText word.Pow = pow→
+wordText word.Inv = inv→
+
+named-sound : (j : Word) (s : List ℕ) (k : Word) (t : List ℕ) → allBytes (wordText j) ≡ true → named j (wordText j) s ≡ good k t
+    → s ≡ wordText k ++ t
+unfolding named
+named-sound j s k t b e = go (next-inv (literal (wordText j) s) (λ _ u. good j u) k t e)
+  where
+    go : (x : Unit) × (u : List ℕ) × (literal (wordText j) s ≡ good x u) × (good j u ≡ good k t) → s ≡ wordText k ++ t
+    go (x, u, a, g) =
+        let p : j ≡ k = cc g in
+        let q : u ≡ t = cc g in
+        literal-sound (wordText j) s x u b a ∙ rw (p, q)
+
+keyword-sound : (s : List ℕ) (k : Word) (t : List ℕ) → keyword s ≡ good k t → s ≡ wordText k ++ t
+unfolding keyword
+keyword-sound s k t e =
+    ⊎-elim (λ e5.
+    ⊎-elim (λ e4.
+    ⊎-elim (λ e3.
+    ⊎-elim (λ e2.
+    ⊎-elim (named-sound word.Add s k t refl)
+    (named-sound word.Mul s k t refl) (or-inv _ _ k t e2))
+    (named-sound word.AddC s k t refl) (or-inv _ _ k t e3))
+    (named-sound word.MulC s k t refl) (or-inv _ _ k t e4))
+    (named-sound word.Pow s k t refl) (or-inv _ _ k t e5))
+    (named-sound word.Inv s k t refl) (or-inv _ _ k t e)
+
+keyword-complete : (k : Word) (s : List ℕ) → keyword (wordText k ++ s) ≡ good k s
+unfolding keyword named literal peek rest
+keyword-complete word.Add s = refl
+keyword-complete word.Mul s = refl
+keyword-complete word.AddC s = refl
+keyword-complete word.MulC s = refl
+keyword-complete word.Pow s = refl
+keyword-complete word.Inv s = refl
+
+-- Two numerals after a word
+record PairAt (s : List ℕ) (i x : Numeral) (t : List ℕ) : Type 0 where
+  left : IsNumeral i
+  right : IsNumeral x
+  text : (w : List ℕ) → w ++ s ≡ two w i x ++ t
+
+abbrev tuple : Numeral → Numeral → Numeral × Numeral
+tuple i x = (i, x)
+
+pair-sound : (s : List ℕ) (p : Numeral × Numeral) (t : List ℕ) → pair s ≡ good p t → PairAt s (p .0) (p .1) t
+unfolding pair
+pair-sound s p t e = first (next-inv (field 9 s) (λ i u. next (field 10 u) (λ x v. good (tuple i x) v)) p t e)
+  where
+    second : (i : Numeral) (u : List ℕ) → NumeralAt s i (9 ∷ u)
+        → (x : Numeral) × (v : List ℕ) × (field 10 u ≡ good x v) × (good (tuple i x) v ≡ good p t) → PairAt s (p .0) (p .1) t
+    second i u n (x, v, a, b) =
+        let m = field-sound 10 u x v (lit< tt) a in
+        let q : tuple i x ≡ p = cc b in
+        let r : v ≡ t = cc b in
+        subst (λ (z : Numeral × Numeral). PairAt s (z .0) (z .1) t) q
+        (record {
+          left = n .fine;
+          right = m .fine;
+          text = λ w. ap (λ (l : List ℕ). w ++ l) (n .text ∙ ap (λ (l : List ℕ). numeralText i ++ (9 ∷ l)) (m .text))
+              ∙ rw r (simp append-assoc);
+        })
+
+    first : (i : Numeral) × (u : List ℕ) × (field 9 s ≡ good i u) × (next (field 10 u) (λ x v. good (tuple i x) v) ≡ good p t)
+        → PairAt s (p .0) (p .1) t
+    first (i, u, a, b) = second i u (field-sound 9 s i u (lit< tt) a) (next-inv (field 10 u) (λ x v. good (tuple i x) v) p t b)
+
+pair-complete : (i x : Numeral) (t : List ℕ) → IsNumeral i → IsNumeral x
+    → pair (numeralText i ++ (9 ∷ (numeralText x ++ (10 ∷ t)))) ≡ good (tuple i x) t
+unfolding pair digit
+pair-complete i x t f g =
+    simp (field-complete 9 i (numeralText x ++ (10 ∷ t)) f (omega arith), field-complete 10 x t g (omega arith))
+
+-- What follows a word: two numerals, for every word but one
+both-sound : (k : Word) (f : Numeral → Numeral → Line) (s : List ℕ) (l : Line) (t : List ℕ)
+    → ((i x : Numeral) → lineText (f i x) ≡ two (wordText k) i x) → ((i x : Numeral) → IsNumeral i → IsNumeral x → HasNumerals (f i x))
+    → both f s ≡ good l t → LineAt (wordText k ++ s) l t
+both-sound k f s l t text fine e = go (next-inv (pair s) (λ p u. good (f (p .0) (p .1)) u) l t e)
+  where
+    go : (p : Numeral × Numeral) × (u : List ℕ) × (pair s ≡ good p u) × (good (f (p .0) (p .1)) u ≡ good l t) → LineAt (wordText k ++ s) l t
+    go (p, u, a, b) =
+        let n = pair-sound s p u a in
+        let q : f (p .0) (p .1) ≡ l = cc b in
+        let r : u ≡ t = cc b in
+        subst (λ (x : Line). LineAt (wordText k ++ s) x t) q
+        (record {
+          fine = fine (p .0) (p .1) (n .left) (n .right);
+          text = n .text (wordText k) ∙ rw (r, text (p .0) (p .1));
+        })
+
+single-sound : (s : List ℕ) (l : Line) (t : List ℕ) → next (field 10 s) (λ i u. good (Inv i) u) ≡ good l t → LineAt (inv→ ++ s) l t
+single-sound s l t e = go (next-inv (field 10 s) (λ i u. good (Inv i) u) l t e)
+  where
+    go : (i : Numeral) × (u : List ℕ) × (field 10 s ≡ good i u) × (good (Inv i) u ≡ good l t) → LineAt (inv→ ++ s) l t
+    go (i, u, a, b) =
+        let n = field-sound 10 s i u (lit< tt) a in
+        let q : Inv i ≡ l = cc b in
+        let r : u ≡ t = cc b in
+        subst (λ (x : Line). LineAt (inv→ ++ s) x t) q
+        (record {
+          fine = n .fine;
+          text = ap (λ (x : List ℕ). inv→ ++ x) (n .text) ∙ rw r (simp append-assoc);
+        })
+
+operands-sound : (k : Word) (s : List ℕ) (l : Line) (t : List ℕ) → operands k s ≡ good l t → LineAt (wordText k ++ s) l t
+unfolding operands
+operands-sound word.Add s l t = both-sound word.Add Add s l t (λ i x. refl) (λ i x f g. (f, g))
+operands-sound word.Mul s l t = both-sound word.Mul Mul s l t (λ i x. refl) (λ i x f g. (f, g))
+operands-sound word.AddC s l t = both-sound word.AddC AddC s l t (λ i x. refl) (λ i x f g. (f, g))
+operands-sound word.MulC s l t = both-sound word.MulC MulC s l t (λ i x. refl) (λ i x f g. (f, g))
+operands-sound word.Pow s l t = both-sound word.Pow Pow s l t (λ i x. refl) (λ i x f g. (f, g))
+operands-sound word.Inv s l t = single-sound s l t
+
+pub line-sound : (s : List ℕ) (l : Line) (t : List ℕ) → operationLine s ≡ good l t → LineAt s l t
+unfolding operationLine
+line-sound s l t e = go (next-inv (keyword s) operands l t e)
+  where
+    go : (k : Word) × (u : List ℕ) × (keyword s ≡ good k u) × (operands k u ≡ good l t) → LineAt s l t
+    go (k, u, a, b) = subst (λ (x : List ℕ). LineAt x l t) (sym (keyword-sound s k u a)) (operands-sound k u l t b)
+
+-- The other way: what is written is read
+after-word : (k : Word) (s : List ℕ) (l : Line) (t : List ℕ) → operands k s ≡ good l t → operationLine (wordText k ++ s) ≡ good l t
+unfolding operationLine
+after-word k s l t e = rw (keyword-complete k s) e
+
+two-complete : (k : Word) (f : Numeral → Numeral → Line) (i x : Numeral) (t : List ℕ) → ((s : List ℕ) → operands k s ≡ both f s)
+    → IsNumeral i → IsNumeral x → operationLine (two (wordText k) i x ++ t) ≡ good (f i x) t
+two-complete k f i x t e g h =
+    simp append-assoc
+    (after-word k (numeralText i ++ (9 ∷ (numeralText x ++ (10 ∷ t)))) (f i x) t
+    (e (numeralText i ++ (9 ∷ (numeralText x ++ (10 ∷ t)))) ∙ rw (pair-complete i x t g h)))
+
+pub line-complete : (l : Line) (t : List ℕ) → HasNumerals l → operationLine (lineText l ++ t) ≡ good l t
+unfolding operands digit
+line-complete (Add i j) t (f, g) = two-complete word.Add Add i j t (λ s. refl) f g
+line-complete (Mul i j) t (f, g) = two-complete word.Mul Mul i j t (λ s. refl) f g
+line-complete (AddC i c) t (f, g) = two-complete word.AddC AddC i c t (λ s. refl) f g
+line-complete (MulC i c) t (f, g) = two-complete word.MulC MulC i c t (λ s. refl) f g
+line-complete (Pow i m) t (f, g) = two-complete word.Pow Pow i m t (λ s. refl) f g
+line-complete (Inv i) t f =
+    simp append-assoc
+    (after-word word.Inv (numeralText i ++ (10 ∷ t)) (Inv i) t (rw (field-complete 10 i t f (omega arith))))
+
+-- The first line
+pub first-sound : (s : List ℕ) (w : Numeral) (t : List ℕ) → firstLine s ≡ good w t → FirstAt s w t
+unfolding firstLine
+first-sound s w t e = go (next-inv (literal factors→ s) (λ _ u. field 10 u) w t e)
+  where
+    go : (x : Unit) × (u : List ℕ) × (literal factors→ s ≡ good x u) × (field 10 u ≡ good w t) → FirstAt s w t
+    go (x, u, a, b) =
+        let n = field-sound 10 u w t (lit< tt) b in
+        record {
+          fine = n .fine;
+          text = literal-sound factors→ s x u refl a ∙ ap (λ (l : List ℕ). factors→ ++ l) (n .text) ∙ simp append-assoc;
+        }
+
+pub first-complete : (w : Numeral) (t : List ℕ) → IsNumeral w → firstLine (firstText w ++ t) ≡ good w t
+unfolding firstLine literal peek rest digit
+first-complete w t f = simp append-assoc (field-complete 10 w t f (omega arith))

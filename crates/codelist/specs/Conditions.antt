@@ -1,0 +1,39 @@
+-- The conditions of 01's refusals 3, 5, 6 and 7 on numbers as they are written.
+use Prim.Native.Nat.{ℕ}
+use mathlib.Core.Bool.{Bool, true, false, cond, _&&_}
+use lib.Dec.{leb}
+use Rattle.codelist.specs.declared.Line.{Line}
+use Rattle.codelist.specs.declared.Line.the-variants.{Add, Mul, AddC, MulC, Pow, Inv}
+use Rattle.codelist.specs.declared.Numeral.{Numeral}
+use Rattle.codelist.specs.Codelist.{limit}
+
+-- low ≤ w ≤ high, for bounds that are not negative
+unfoldable pub within : ℕ → ℕ → Numeral → Bool
+within low high w = cond (w .negative) false (leb low (w .magnitude) && leb (w .magnitude) high)
+
+-- 5: every reference is to one of the e codelist lines before
+unfoldable pub refersBack : ℕ → Line → Bool
+refersBack e (Add i j) = within 1 e i && within 1 e j
+refersBack e (Mul i j) = within 1 e i && within 1 e j
+refersBack e (AddC i c) = within 1 e i
+refersBack e (MulC i c) = within 1 e i
+refersBack e (Pow i m) = within 1 e i
+refersBack e (Inv i) = within 1 e i
+
+-- 6: an exponent is 2 to 8
+unfoldable pub exponentFits : Line → Bool
+exponentFits (Pow i m) = within 2 8 m
+exponentFits (Add i j) = true
+exponentFits (Mul i j) = true
+exponentFits (AddC i c) = true
+exponentFits (MulC i c) = true
+exponentFits (Inv i) = true
+
+-- 7: a constant is not beyond the limit
+unfoldable pub constantFits : Line → Bool
+constantFits (AddC i c) = leb (c .magnitude) limit
+constantFits (MulC i c) = leb (c .magnitude) limit
+constantFits (Add i j) = true
+constantFits (Mul i j) = true
+constantFits (Pow i m) = true
+constantFits (Inv i) = true

@@ -1,0 +1,123 @@
+-- Loading: the whole codelist, or one refusal. 01, "Refusals that come from the input", 1 to 7, and "Loading: 1 first, then text lines
+-- from the top, within a line in the order 2, 3, 4, 5, 6, 7; a sheet without operations is found last."
+use Prim.Native.Nat.{ℕ, suc, zero, _+_, _-_}
+use mathlib.Core.Bool.{Bool, cond}
+use mathlib.Core.List.{List, [], _∷_, _++_}
+use lib.Dec.{leb}
+use lib.IntN.{ℤ, pos, negℤ}
+use lib.ListN.{length, replicate}
+use Rattle.codelist.specs.declared.Checked.{Checked}
+use Rattle.codelist.specs.declared.Checked.the-variants.{Fine, Fault}
+use Rattle.codelist.specs.declared.Codelist.{Codelist}
+use Rattle.codelist.specs.declared.Entry.{Entry}
+use Rattle.codelist.specs.declared.Line.{Line}
+use Rattle.codelist.specs.declared.Line.the-variants.{Add, Mul, AddC, MulC, Pow, Inv}
+use Rattle.codelist.specs.declared.Loaded.{Loaded}
+use Rattle.codelist.specs.declared.Numeral.{Numeral}
+use Rattle.codelist.specs.declared.Op.{Op}
+use Rattle.codelist.specs.declared.Op.the-variants as op
+use Rattle.codelist.specs.declared.Outcome.the-variants.{Accepted, Refused}
+use Rattle.codelist.specs.declared.Refusal.{Refusal}
+use Rattle.codelist.specs.declared.Refusal.the-variants.{TooLong, Malformed, FactorCount, TooManyLines, NoOperation, Reference}
+use Rattle.codelist.specs.declared.Refusal.the-variants.{Exponent, Constant}
+use Rattle.codelist.specs.Codelist.{blank}
+use Rattle.codelist.specs.Conditions.{within, refersBack, exponentFits, constantFits}
+use Rattle.codelist.specs.Read.{Read, good, bad, operationLine, firstLine}
+
+-- 01's number and place of each refusal
+abbrev pub numberOf : Refusal → ℕ
+numberOf TooLong = 1
+numberOf (Malformed p) = 2
+numberOf FactorCount = 3
+numberOf (TooManyLines p) = 4
+numberOf NoOperation = 4
+numberOf (Reference p) = 5
+numberOf (Exponent p) = 6
+numberOf (Constant p) = 7
+
+abbrev pub placeOf : Refusal → ℕ
+placeOf TooLong = 0
+placeOf (Malformed p) = p
+placeOf FactorCount = 1
+placeOf (TooManyLines p) = p
+placeOf NoOperation = 1
+placeOf (Reference p) = p
+placeOf (Exponent p) = p
+placeOf (Constant p) = p
+
+-- "A refusal carries number and place, every other field is 0": the codelist is the empty one
+unfoldable pub empty : Codelist
+empty = record { factors = 0; count = 0; ops = replicate 64 blank }
+
+abbrev pub refused : Refusal → Loaded
+refused r = record { outcome = Refused r; codelist = empty }
+
+abbrev pub accepted : Codelist → Loaded
+accepted c = record { outcome = Accepted; codelist = c }
+
+-- The codelist of n factors and the operations ops, which fill the array from the front
+unfoldable pub codelistOf : ℕ → List Entry → Codelist
+codelistOf n ops = record { factors = n; count = length ops; ops = ops ++ replicate (64 - length ops) blank }
+
+-- A numeral's value
+unfoldable pub valueOf : Numeral → ℤ
+valueOf w = cond (w .negative) (negℤ (pos (w .magnitude))) (pos (w .magnitude))
+
+-- The operation of a line that keeps the rules
+abbrev pub opOf : Line → Op
+opOf (Add i j) = op.Add (i .magnitude) (j .magnitude)
+opOf (Mul i j) = op.Mul (i .magnitude) (j .magnitude)
+opOf (AddC i c) = op.AddC (i .magnitude) (valueOf c)
+opOf (MulC i c) = op.MulC (i .magnitude) (valueOf c)
+opOf (Pow i m) = op.Pow (i .magnitude) (m .magnitude)
+opOf (Inv i) = op.Inv (i .magnitude)
+
+-- The first where a condition does not hold, else the second
+abbrev pub unless : {A : Type 0} → Bool → A → A → A
+unless b x y = cond b y x
+
+-- The line at text line p, with e codelist lines before it: 5, then 6, then 7
+unfoldable pub checkedOf : ℕ → ℕ → Line → Checked
+checkedOf p e l =
+    unless (refersBack e l) (Fault (Reference p))
+    (unless (exponentFits l) (Fault (Exponent p))
+    (unless (constantFits l) (Fault (Constant p)) (Fine (opOf l))))
+
+-- The end of the text, after the operations ops: there must be one
+abbrev pub ended : ℕ → List Entry → Loaded
+ended n [] = refused NoOperation
+ended n (x ∷ xs) = accepted (codelistOf n (x ∷ xs))
+
+-- What a checked line leads to
+abbrev pub onChecked : Checked → (Op → Loaded) → Loaded
+onChecked (Fine o) f = f o
+onChecked (Fault r) f = refused r
+
+-- What an operation line at text line p leads to: 2 where it is not of the form
+abbrev pub onLine : ℕ → Read Line → (Line → List ℕ → Loaded) → Loaded
+onLine p (good l s) f = f l s
+onLine p bad f = refused (Malformed p)
+
+-- The first at the end of the text, else the second
+abbrev pub atEnd : List ℕ → Loaded → Loaded → Loaded
+atEnd [] x y = x
+atEnd (b ∷ s) x y = y
+
+-- The text lines after the operations ops, of a codelist with n factors and room for so many codelist lines more
+unfoldable pub operationLines : ℕ → ℕ → List Entry → List ℕ → Loaded
+operationLines n zero ops s =
+    atEnd s (ended n ops) (onLine (length ops + 2) (operationLine s) (λ l t. refused (TooManyLines (length ops + 2))))
+operationLines n (suc room) ops s =
+    atEnd s (ended n ops)
+    (onLine (length ops + 2) (operationLine s) (λ l t.
+    onChecked (checkedOf (length ops + 2) (n + length ops) l) (λ o.
+    operationLines n room (ops ++ (record { op = o } ∷ [])) t)))
+
+-- What the first line leads to
+abbrev pub onFirst : Read Numeral → Loaded
+onFirst (good w s) = unless (within 1 8 w) (refused FactorCount) (operationLines (w .magnitude) (64 - w .magnitude) [] s)
+onFirst bad = refused (Malformed 1)
+
+-- LOADING
+unfoldable pub loadOf : List ℕ → Loaded
+loadOf s = unless (leb (length s) 4096) (refused TooLong) (onFirst (firstLine s))

@@ -1,0 +1,80 @@
+-- The forms of a codelist's text lines. 01, "The sheet".
+use Prim.Native.Nat.{ℕ, suc, zero, _+_, _/_, _%_, _^_, _≤_, _<_}
+use mathlib.Core.Bool.{true, cond}
+use mathlib.Core.List.{List, [], _∷_, _++_}
+use mathlib.Core.Path.{_≡_}
+use lib.Dec.{ltb}
+use Rattle.codelist.specs.declared.Line.{Line}
+use Rattle.codelist.specs.declared.Line.the-variants.{Add, Mul, AddC, MulC, Pow, Inv}
+use Rattle.codelist.specs.declared.Numeral.{Numeral}
+
+-- The words that a line begins with, the tab (byte 9, shown → in 01) after each included
+abbrev pub factors→ : List ℕ
+factors→ = 102 ∷ 97 ∷ 99 ∷ 116 ∷ 111 ∷ 114 ∷ 115 ∷ 9 ∷ []
+
+abbrev pub add→ : List ℕ
+add→ = 97 ∷ 100 ∷ 100 ∷ 9 ∷ []
+
+abbrev pub mul→ : List ℕ
+mul→ = 109 ∷ 117 ∷ 108 ∷ 9 ∷ []
+
+abbrev pub addc→ : List ℕ
+addc→ = 97 ∷ 100 ∷ 100 ∷ 99 ∷ 9 ∷ []
+
+abbrev pub mulc→ : List ℕ
+mulc→ = 109 ∷ 117 ∷ 108 ∷ 99 ∷ 9 ∷ []
+
+abbrev pub pow→ : List ℕ
+pow→ = 112 ∷ 111 ∷ 119 ∷ 9 ∷ []
+
+abbrev pub inv→ : List ℕ
+inv→ = 105 ∷ 110 ∷ 118 ∷ 9 ∷ []
+
+-- "A numeral is an optional minus sign and 1 to 10 decimal digits, with no leading zero except `0` itself, and no `-0`":
+-- the text of a number in decimal, below 10 ^ 10, after a minus sign (byte 45) at will if it is not 0
+pub record IsNumeral (w : Numeral) : Type 0 where
+  pub few : w .magnitude < 10 ^ 10
+  pub some : w .negative ≡ true → 1 ≤ w .magnitude
+
+-- The decimal digits of m, at most k + 1 of them
+unfoldable pub decimal : ℕ → ℕ → List ℕ
+decimal zero m = (48 + m) ∷ []
+decimal (suc k) m = cond (ltb m 10) ((48 + m) ∷ []) (decimal k (m / 10) ++ ((48 + m % 10) ∷ []))
+
+unfoldable pub numeralText : Numeral → List ℕ
+numeralText w = cond (w .negative) (45 ∷ decimal 9 (w .magnitude)) (decimal 9 (w .magnitude))
+
+-- "Lines of text, each ended by byte 10, fields parted by one tab. The first line is `factors→n`."
+abbrev pub firstText : Numeral → List ℕ
+firstText n = factors→ ++ (numeralText n ++ (10 ∷ []))
+
+-- "Then come operation lines: `add→i→j`, `mul→i→j`, `addc→i→c`, `mulc→i→c`, `pow→i→m`, `inv→i`."
+abbrev pub two : List ℕ → Numeral → Numeral → List ℕ
+two w i j = w ++ (numeralText i ++ (9 ∷ (numeralText j ++ (10 ∷ []))))
+
+abbrev pub lineText : Line → List ℕ
+lineText (Add i j) = two add→ i j
+lineText (Mul i j) = two mul→ i j
+lineText (AddC i c) = two addc→ i c
+lineText (MulC i c) = two mulc→ i c
+lineText (Pow i m) = two pow→ i m
+lineText (Inv i) = inv→ ++ (numeralText i ++ (10 ∷ []))
+
+-- Each number field of a line is a numeral, of any value
+abbrev pub HasNumerals : Line → Type 0
+HasNumerals (Add i j) = IsNumeral i × IsNumeral j
+HasNumerals (Mul i j) = IsNumeral i × IsNumeral j
+HasNumerals (AddC i c) = IsNumeral i × IsNumeral c
+HasNumerals (MulC i c) = IsNumeral i × IsNumeral c
+HasNumerals (Pow i m) = IsNumeral i × IsNumeral m
+HasNumerals (Inv i) = IsNumeral i
+
+-- The text s is a first line with the numeral w, and then t
+pub record FirstAt (s : List ℕ) (w : Numeral) (t : List ℕ) : Type 0 where
+  pub fine : IsNumeral w
+  pub text : s ≡ firstText w ++ t
+
+-- The text s is the operation line l, and then t
+pub record LineAt (s : List ℕ) (l : Line) (t : List ℕ) : Type 0 where
+  pub fine : HasNumerals l
+  pub text : s ≡ lineText l ++ t

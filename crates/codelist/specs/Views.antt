@@ -1,0 +1,54 @@
+-- What the code's readers say of the text s that they read: a place is what is left of s there. For private contracts only.
+use Prim.Native.Nat.{ℕ, _≤_}
+use mathlib.Core.List.{List}
+use lib.ListN.{drop}
+use Rattle.codelist.specs.declared.Line.{Line}
+use Rattle.codelist.specs.declared.Line.the-variants.{Add, Mul, AddC, MulC, Pow, Inv}
+use Rattle.codelist.specs.declared.LineRead as o
+use Rattle.codelist.specs.declared.LiteralRead as l
+use Rattle.codelist.specs.declared.Numeral.{Numeral}
+use Rattle.codelist.specs.declared.NumeralRead as n
+use Rattle.codelist.specs.declared.PairRead as p
+use Rattle.codelist.specs.declared.Word.{Word}
+use Rattle.codelist.specs.declared.Word.the-variants as word
+use Rattle.codelist.specs.declared.WordRead as w
+use Rattle.codelist.specs.Read.{Read, good, bad}
+use Rattle.codelist.specs.Codelist.{limit}
+
+abbrev pub ofLiteral : List ℕ → l.LiteralRead → Read Unit
+ofLiteral s (l.the-variants.Good at) = good tt (drop at s)
+ofLiteral s l.the-variants.Bad = bad
+
+abbrev pub ofNumeral : List ℕ → n.NumeralRead → Read Numeral
+ofNumeral s (n.the-variants.Good w at) = good w (drop at s)
+ofNumeral s n.the-variants.Bad = bad
+
+abbrev pub ofPair : List ℕ → p.PairRead → Read (Numeral × Numeral)
+ofPair s (p.the-variants.Good i x at) = good (i, x) (drop at s)
+ofPair s p.the-variants.Bad = bad
+
+abbrev pub ofWord : List ℕ → w.WordRead → Read Word
+ofWord s (w.the-variants.Good k at) = good k (drop at s)
+ofWord s w.the-variants.Bad = bad
+
+abbrev pub ofLine : List ℕ → o.LineRead → Read Line
+ofLine s (o.the-variants.Good r at) = good r (drop at s)
+ofLine s o.the-variants.Bad = bad
+
+-- The line of a word and two numerals
+abbrev pub binaryOf : Word → Numeral → Numeral → Line
+binaryOf word.Add i x = Add i x
+binaryOf word.Mul i x = Mul i x
+binaryOf word.AddC i x = AddC i x
+binaryOf word.MulC i x = MulC i x
+binaryOf word.Pow i x = Pow i x
+binaryOf word.Inv i x = Inv i
+
+-- The numbers of a line fit the operation's fields
+abbrev pub Fits : Line → Type 0
+Fits (Add i j) = (i .magnitude ≤ 255) × (j .magnitude ≤ 255)
+Fits (Mul i j) = (i .magnitude ≤ 255) × (j .magnitude ≤ 255)
+Fits (AddC i c) = (i .magnitude ≤ 255) × (c .magnitude ≤ limit)
+Fits (MulC i c) = (i .magnitude ≤ 255) × (c .magnitude ≤ limit)
+Fits (Pow i m) = (i .magnitude ≤ 255) × (m .magnitude ≤ 255)
+Fits (Inv i) = i .magnitude ≤ 255
