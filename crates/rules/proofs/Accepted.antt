@@ -1,0 +1,108 @@
+-- What it says that a rating is accepted, and the induction over its lines. Assumes nothing.
+use mathlib.Core.Path.{_≡_, refl, sym, ap, _∙_}
+use mathlib.Core.Bool.{Bool, true, false, cond}
+use mathlib.Core.List.{List, [], _∷_, _++_}
+use mathlib.Core.Option.{Option, some}
+use Prim.Native.Nat.{ℕ, zero, suc, _*_, _≤_, _<_}
+use native.Mathlib.Nat as N
+use native.Mathlib.Omega.{arith}
+use lib.Dec.{eqb}
+use lib.IntN.{ℤ}
+use lib.ListN.{length, length-append}
+use borrow.Author.Tests.{eqb-true}
+use Rattle.codelist.specs.declared.Entry.{Entry}
+use Rattle.codelist.specs.declared.Codelist.{Codelist}
+use Rattle.codelist.specs.Codelist.{WellFormed, wellFormed}
+use Rattle.codelist.proofs.WellFormed as WellFormed
+use Rattle.range.specs.declared.Range.{Range}
+use Rattle.range.specs.Sums.{at}
+use Rattle.rules.specs.declared.Line.{Line}
+use Rattle.rules.specs.declared.Refusal.{Refusal}
+use Rattle.rules.specs.declared.Refusal.the-variants.{NoCodelist, RangeCount}
+use Rattle.rules.specs.declared.Limits.{Limits}
+use Rattle.rules.specs.declared.Rating.{Rating}
+use Rattle.rules.specs.Table.{factorRow, lineOf}
+use Rattle.rules.specs.Run.{rowOf, Lines, through, stopped, runOps, factorLines, linesOf, operations}
+use Rattle.rules.specs.Rate.{last, limitsOf, rated, refused, pairs, finished, firstBad, rateRanges, rateOf}
+use Rattle.rules.specs.Exact.{Point, Jet, factorJet, exactLines, premiumOf}
+use Rattle.rules.proofs.Along.{at-turn, Along, along-last, along-run, along-factors, Kept}
+
+-- the codelist is well formed, there is a range per factor, and the limits are those of the last line of a run that went through
+pub record Accepted (c : Codelist) (xs : List ℤ) (l : Limits) : Type 0 where
+  pub formed : WellFormed c
+  pub count : length (pairs xs) ≡ c .factors
+  pub lines : List Line
+  pub ran : linesOf c (pairs xs) ≡ through lines
+  pub limits : l ≡ limitsOf (c .factors) (last lines)
+
+pairs-length : (xs : List ℤ) (n : ℕ) → length xs ≡ 2 * n → length (pairs xs) ≡ n
+pairs-length [] n e = omega arith
+pairs-length (l ∷ []) n e = absurd (omega arith)
+pairs-length (l ∷ h ∷ xs) zero e = absurd (omega arith)
+pairs-length (l ∷ h ∷ xs) (suc n) e = ap suc (pairs-length xs n (omega arith))
+
+-- ---- which answers are limits
+not-rated : {r : Refusal} {l : Limits} → refused r ≡ rated l → ⊥
+not-rated e = let o = ap (λ (a : Rating). a .outcome) e in let z : _≡_ {A = ℕ} 0 1 = cc in omega arith
+
+passed : (r : Refusal) {l : Limits} (b : Bool) {a : Rating} → cond b a (refused r) ≡ rated l → (b ≡ true) × (a ≡ rated l)
+passed r true e = (refl, e)
+passed r false e = absurd (not-rated e)
+
+ranged : (c : Codelist) (rs : List Range) (z : ℕ) {l : Limits} → rateRanges c rs z ≡ rated l
+    → finished (c .factors) (linesOf c rs) ≡ rated l
+unfolding rateRanges
+ranged c rs zero e = e
+ranged c rs (suc a) e = absurd (not-rated e)
+
+through-to : (n : ℕ) (u : Lines) {l : Limits} → finished n u ≡ rated l → (ms : List Line) × ((u ≡ through ms) × (l ≡ limitsOf n (last ms)))
+through-to n (through ms) e = (ms, (refl, sym (ap (λ (a : Rating). a .limits) e)))
+through-to n (stopped r) e = absurd (not-rated e)
+
+pub accepted : (c : Codelist) (xs : List ℤ) (l : Limits) → rateOf c xs ≡ rated l → Accepted c xs l
+unfolding rateOf
+accepted c xs l e =
+    let w = passed NoCodelist (wellFormed c) e in
+    let n = passed RangeCount (eqb (length xs) (2 * c .factors)) (w .1) in
+    let t = through-to (c .factors) (linesOf c (pairs xs)) (ranged c (pairs xs) (firstBad 1 (pairs xs)) (n .1)) in
+    record {
+      formed = WellFormed.decides c .0 (w .0);
+      count = pairs-length xs (c .factors) (eqb-true (length xs) (2 * c .factors) (n .0));
+      lines = t .0;
+      ran = t .1 .0;
+      limits = t .1 .1;
+    }
+
+-- ════ every line ════
+
+run-grows : (ops : List Entry) (ls ms : List Line) → runOps ops ls ≡ through ms → length ls ≤ length ms
+unfolding runOps
+run-grows [] ls ms e = let same : ls ≡ ms = cc in omega (arith, ap length same)
+run-grows (o ∷ ops) ls ms e =
+    let next = lineOf (rowOf (o .op) ls) in
+    omega (arith, run-grows ops (ls ++ (next ∷ [])) ms (at-turn o ops ls ms e .1), length-append ls (next ∷ []))
+
+factors-length : (i : ℕ) (rs : List Range) → length (factorLines i rs) ≡ length rs
+unfolding factorLines
+factors-length i [] = refl
+factors-length i (r ∷ rs) = ap suc (factors-length (suc i) rs)
+
+-- what holds of the factors' lines, and is kept
+module _ (R : Option Jet → Option Jet → Line → Type 0) (K : Kept R)
+    {c : Codelist} {xs : List ℤ} {l : Limits} (A : Accepted c xs l) (p q : Point)
+    (h : (a : ℕ) → a < c .factors → R (some (factorJet p a)) (some (factorJet q a)) (lineOf (factorRow a (at (pairs xs) a)))) where
+  pub every-line : Along R (exactLines c p) (exactLines c q) (A .lines)
+  unfolding exactLines linesOf
+  every-line =
+      let first = factorLines 0 (pairs xs) in
+      let count : length first ≡ c .factors = factors-length 0 (pairs xs) ∙ A .count in
+      along-run R K (operations c) first (A .lines)
+      (rw count (A .formed .each))
+      (rw (A .count) at (along-factors R p q 0 (pairs xs) (λ a k. rw (N.zero-add a) (h a (omega (arith, A .count))))))
+      (A .ran)
+
+  pub last-line : R (premiumOf c p) (premiumOf c q) (last (A .lines))
+  unfolding premiumOf linesOf
+  last-line =
+      let grown = run-grows (operations c) (factorLines 0 (pairs xs)) (A .lines) (A .ran) in
+      along-last R (omega (arith, factors-length 0 (pairs xs), A .count, A .formed .factors .0)) every-line

@@ -1,0 +1,163 @@
+-- The column E of the table: where the operands' spectra bound v'Hv of their exact second derivatives, each row's spectrum bounds its own.
+-- Assumes nothing.
+use mathlib.Core.Path.{_≡_, refl, sym, _∙_, ap}
+use Prim.Native.Nat.{ℕ, suc, _*_, _-_, _<_, _≤_}
+use native.Mathlib.Omega.{arith}
+use lib.Bits.{or-lt}
+use lib.Dec.{T}
+use lib.IntN.{ℤ, pos}
+use Rattle.algebra.proofs.Form as Form
+use Rattle.algebra.proofs.Ring as Ring
+use Rattle.exact.proofs.Rat as Q
+use Rattle.exact.proofs.Rat.{ℚ, _+ℚ_, _*ℚ_, 0ℚ, ℚ-ring}
+use Rattle.exact.proofs.Units.{units}
+use Rattle.range.specs.declared.Range.{Range}
+use Rattle.range.specs.Sums.{has, at}
+use Rattle.range.specs.Inclusion.{_∈_, num, _^_}
+use Rattle.range.proofs.Holds.{exactly-∈}
+use Rattle.range.proofs.Bounded.{Bounded, bounded-eq, zero-bounded, sum-bounded, neg-bounded, times-bounded, product-bounded}
+use Rattle.range.proofs.InclusionPower.{power-∈}
+use Rattle.rules.specs.declared.Line.{Line}
+use Rattle.rules.specs.Formula.{given, sticky}
+use Rattle.rules.specs.Sets.{none, _∪_}
+use Rattle.rules.specs.Table.{extended, squareSpectrum, factorRow, addRow, addcRow, mulcRow, mulRow, powRow, invRow, lineOf}
+use Rattle.rules.specs.Exact.{Point, Jet, factorJet, addJet, addcJet, mulcJet, mulJet, powJet, invJet}
+use Rattle.rules.proofs.Members.{_⊆_, ⊆-refl, ⊆-trans, left-in, right-in, union-in, outside}
+use Rattle.rules.proofs.InnerProducts.{weight, weight-nonneg}
+use Rattle.rules.proofs.Forms as Forms
+use Rattle.rules.proofs.SpectrumSum.{extended-bounded, spectrumOfSum-bounded}
+use Rattle.rules.proofs.Gradient.{Gradient}
+use Rattle.rules.proofs.SpectrumSquare.{squareSpectrum-bounded}
+use Rattle.rules.proofs.SpectrumCross.{crossSpectrum-bounded}
+
+-- v'Hv and u·v over the eight factors
+abbrev pub form : (ℕ → ℕ → ℚ) → (ℕ → ℚ) → ℚ
+form H v = Form.form ℚ-ring 8 H v
+
+abbrev dot : (ℕ → ℚ) → (ℕ → ℚ) → ℚ
+dot u v = Form.dot ℚ-ring 8 u v
+
+-- a line's spectrum bounds v'Hv, for each v
+pub record Curved (l : Line) (j : Jet) : Type 0 where
+  pub curved : (v : ℕ → ℚ) → Bounded (weight (l .nonlinear) v) (l .spectrum) (form (j .second) v)
+
+-- what the rules of mul, pow and inv ask of an operand besides its spectrum
+pub record Known (l : Line) (j : Jet) : Type 0 where
+  pub value : j .value ∈ l .value
+  pub gradient : (a : ℕ) → a < 8 → j .first a ∈ at (l .gradient) a
+  pub outside-support : (a : ℕ) → ¬ T (has (l .support) a) → j .first a ≡ 0ℚ
+  pub nonlinear-in : l .nonlinear ⊆ l .support
+  pub small : l .support < 256
+
+-- the gradient of a line, over its support or a larger set
+gradient-over : {l : Line} {j : Jet} {s : ℕ} → Known l j → l .support ⊆ s → s < 256 → Gradient s (l .gradient) (j .first)
+gradient-over K i small = record {
+  small = small;
+  members = record { each = λ a l m. K .gradient a l };
+  outside = λ a m. K .outside-support a (outside i a m);
+}
+
+-- ════ the rows ════
+
+pub factor-curved : (p : Point) (i : ℕ) (r : Range) → Curved (lineOf (factorRow i r)) (factorJet p i)
+unfolding lineOf factorRow factorJet
+factor-curved p i r = record { curved = λ v. bounded-eq (zero-bounded (weight none v)) (sym (Form.form-zero ℚ-ring 8 v (λ a b. refl))) }
+
+pub add-curved : {x y : Line} {j k : Jet} → Curved x j → Curved y k → Curved (lineOf (addRow x y)) (addJet j k)
+unfolding lineOf addRow addJet
+add-curved {x} {y} {j} {k} X Y = record {
+  curved = λ v.
+      bounded-eq
+      (spectrumOfSum-bounded (x .nonlinear) (y .nonlinear) v (X .curved v) (Y .curved v))
+      (sym (Form.form-add ℚ-ring 8 (j .second) (k .second) v));
+}
+
+pub addc-curved : {x : Line} {j : Jet} (c : ℤ) → Curved x j → Curved (lineOf (addcRow x c)) (addcJet j c)
+unfolding lineOf addcRow addcJet
+addc-curved c X = record { curved = X .curved }
+
+pub mulc-curved : {x : Line} {j : Jet} (c : ℤ) → Curved x j → Curved (lineOf (mulcRow x c)) (mulcJet j c)
+unfolding lineOf mulcRow mulcJet
+mulc-curved {x} {j} c X = record {
+  curved = λ v.
+      bounded-eq
+      (product-bounded (weight-nonneg (x .nonlinear) v) (exactly-∈ c) (X .curved v))
+      (sym (Form.form-ext ℚ-ring 8 v (λ a b. Q.*ℚ-comm (j .second a b) (units c)) ∙ Form.form-scale ℚ-ring 8 (units c) (j .second) v));
+}
+
+-- what the rule of mul bounds
+module _ {x y : Line} {j k : Jet} (K : Known x j) (L : Known y k) (X : Curved x j) (Y : Curved y k) where
+  product-spectrum-bounded : (v : ℕ → ℚ) → Bounded (weight (x .support ∪ y .support) v) (sticky (mulRow x y .spectrum))
+      (num 2 *ℚ dot v (j .first) *ℚ dot v (k .first) +ℚ (k .value *ℚ form (j .second) v +ℚ j .value *ℚ form (k .second) v))
+  unfolding mulRow
+  product-spectrum-bounded v =
+      sum-bounded
+      (crossSpectrum-bounded (gradient-over K left small) (gradient-over L right small) v)
+      (extended-bounded (x .nonlinear ∪ y .nonlinear) (x .support ∪ y .support) v
+      (union-in (⊆-trans (K .nonlinear-in) left) (⊆-trans (L .nonlinear-in) right))
+      (spectrumOfSum-bounded (x .nonlinear) (y .nonlinear) v
+      (product-bounded (weight-nonneg (x .nonlinear) v) (L .value) (X .curved v))
+      (product-bounded (weight-nonneg (y .nonlinear) v) (K .value) (Y .curved v))))
+    where
+      left : x .support ⊆ x .support ∪ y .support
+      left = left-in (x .support) (y .support)
+
+      right : y .support ⊆ x .support ∪ y .support
+      right = right-in (x .support) (y .support)
+
+      small : (x .support ∪ y .support) < 256
+      small = or-lt 8 (x .support) (y .support) (K .small) (L .small)
+
+  pub mul-curved : Curved (lineOf (mulRow x y)) (mulJet j k)
+  unfolding lineOf mulRow mulJet
+  mul-curved = record {
+    curved = λ v.
+        bounded-eq
+        (product-spectrum-bounded v)
+        (sym (Forms.mul-form ℚ-ring 8 (j .value) (k .value) (j .second) (k .second) (j .first) (k .first) v));
+  }
+
+-- pow and inv
+module _ {x : Line} {j : Jet} (K : Known x j) (X : Curved x j) where
+  square-bounded : (v : ℕ → ℚ) → Bounded (weight (x .support) v) (sticky (squareSpectrum (x .support) (x .gradient)))
+      (dot v (j .first) *ℚ dot v (j .first))
+  square-bounded = squareSpectrum-bounded (gradient-over K (⊆-refl (x .support)) (K .small))
+
+  support-bounded : (v : ℕ → ℚ)
+      → Bounded (weight (x .support) v) (sticky (extended (given (x .spectrum)) (x .nonlinear) (x .support))) (form (j .second) v)
+  support-bounded v = extended-bounded (x .nonlinear) (x .support) v (K .nonlinear-in) (X .curved v)
+
+  pub pow-curved : (m : ℕ) → 2 ≤ m → Curved (lineOf (powRow x m)) (powJet j m)
+  unfolding lineOf powRow powJet Ring.pow
+  pow-curved m two = record {
+    curved = λ v.
+        let p = weight-nonneg (x .support) v in
+        bounded-eq
+        (times-bounded m
+        (product-bounded p (power-∈ (m - 2) (K .value))
+        (sum-bounded (times-bounded (m - 1) (square-bounded v)) (product-bounded p (K .value) (support-bounded v)))))
+        (sym
+        (Forms.pow-form ℚ-ring 8 (num m) (num (m - 1)) (num (m * (m - 1))) (j .value) (j .value ^ (m - 2)) (j .value ^ (m - 1))
+        (j .second) (j .first) v step (sym (Q.fromℤ-* (pos m) (pos (m - 1))))));
+  }
+    where
+      raised : (n : ℕ) → j .value ^ suc n ≡ j .value *ℚ j .value ^ n
+      raised n = refl
+
+      one-less : m - 1 ≡ suc (m - 2)
+      one-less = omega arith
+
+      step : j .value ^ (m - 1) ≡ j .value *ℚ j .value ^ (m - 2)
+      step = ap (λ n. j .value ^ n) one-less ∙ raised (m - 2)
+
+  -- y is 1/x
+  pub inv-curved : (y : ℚ) → y ∈ lineOf (invRow x) .value → Curved (lineOf (invRow x)) (invJet j y)
+  unfolding lineOf invRow invJet Ring.pow
+  inv-curved y h = record {
+    curved = λ v.
+        let p = weight-nonneg (x .support) v in
+        bounded-eq
+        (product-bounded p (power-∈ 2 h)
+        (sum-bounded (times-bounded 2 (product-bounded p h (square-bounded v))) (neg-bounded (support-bounded v))))
+        (sym (Forms.inv-form ℚ-ring 8 y (y ^ 2) (y ^ 3) (j .second) (j .first) v refl));
+  }

@@ -1,0 +1,144 @@
+-- 01, "Figures to hold it to": the starred ones, from the rules themselves. Each is a codelist with ranges and what rating gives.
+use mathlib.Core.Path.{_≡_, refl}
+use mathlib.Core.List.{List, [], _∷_, map}
+use Prim.Native.Nat.{ℕ}
+use lib.Count.{ones, onesIn, trailingZeros}
+use lib.IntN.{ℤ, pos, negℤ}
+use Rattle.algebra.specs.Sum.{sum}
+use Rattle.exact.specs.Div.{floorDiv, ceilDiv, floorQuot, ceilQuot}
+use Rattle.exact.specs.Sqrt.{ceilSqrt, floorSqrt, rootBits}
+use Rattle.codelist.specs.declared.Op.{Op}
+use Rattle.codelist.specs.declared.Op.the-variants.{Add, Mul, MulC, Pow, Inv}
+use Rattle.codelist.specs.Codelist.{isBlank, blanksOnly, wellFormedOps, wellFormed}
+use Rattle.codelist.specs.Load.{codelistOf}
+use Rattle.range.specs.declared.Range.{Range}
+use Rattle.range.specs.Limit.{fromTo, zeroRange, isValid, bothValid, kept}
+use Rattle.range.specs.Arithmetic.{sumOf, negOf, timesOf, endsProduct, productOf, endsInverse, inverseOf, hullOf}
+use Rattle.range.specs.Power.{chain, upsWithin, powAbove, powBelow, powAcrossEven, powAcrossOdd, powAcross, powBySign, powOf}
+use Rattle.range.specs.Sums.{has, sumOver, validBelow, endsProducts, productsOf, largestSquare, squareSum, squaresOf, rootSum, rootOf}
+use Rattle.rules.specs.declared.Refusal.the-variants.{Divisor, Overflow}
+use Rattle.rules.specs.declared.Rating.{Rating}
+use Rattle.rules.specs.Sets.{apart, isSingle, only}
+use Rattle.rules.specs.Table.{factorRow, addRow, addcRow, mulcRow, mulRow, powRow, invRow, lineOf}
+use Rattle.rules.specs.Run.{rowOf, invertsZero, within, runOps, factorLines, linesOf}
+use Rattle.rules.specs.Rate.{last, limitsOf, rated, refused, firstBad, rateRanges, rateOf}
+
+-- a codelist's factors and operations, the ranges of its factors, and what rating gives
+pub record Figure : Type 0 where
+  pub factors : ℕ
+  pub operations : List Op
+  pub ranges : List Range
+  pub gives : Rating
+
+-- l..h, of units not below 0, and u units below 0
+infix 90 _to_
+abbrev pub _to_ : ℕ → ℕ → Range
+l to h = fromTo (pos l) (pos h)
+
+abbrev pub − : ℕ → ℤ
+− u = negℤ (pos u)
+
+-- the slopes of two factors, and 0, 0 beyond
+abbrev pub slopes : Range → Range → List Range
+slopes g h = g ∷ h ∷ zeroRange ∷ zeroRange ∷ zeroRange ∷ zeroRange ∷ zeroRange ∷ zeroRange ∷ []
+
+-- V, G, P, B, E and the full bend
+abbrev pub limits : Range → List Range → ℕ → ℕ → Range → Range → Rating
+limits v g p b e f = rated (record { value = v; gradient = g; support = p; nonlinear = b; spectrum = e; full = f })
+
+abbrev pub figures : List Figure
+figures =
+    -- `pow→1→2` on 10000..30000: V 10000..90000, G 20000..60000, E 20000..20000
+    record {
+      factors = 1;
+      operations = Pow 1 2 ∷ [];
+      ranges = 10000 to 30000 ∷ [];
+      gives = limits (10000 to 90000) (slopes (20000 to 60000) zeroRange) 1 1 (20000 to 20000) (20000 to 20000);
+    }
+    -- `inv→1` on 20000..40000: V 2500..5000, G −2500..−625, E 312..2500
+    ∷ record {
+      factors = 1;
+      operations = Inv 1 ∷ [];
+      ranges = 20000 to 40000 ∷ [];
+      gives = limits (2500 to 5000) (slopes (fromTo (− 2500) (− 625)) zeroRange) 1 1 (312 to 2500) (312 to 2500);
+    }
+    -- `inv→1` on 30000..30000: V 3333..3334, G −1112..−1110, E 739..742
+    ∷ record {
+      factors = 1;
+      operations = Inv 1 ∷ [];
+      ranges = 30000 to 30000 ∷ [];
+      gives = limits (3333 to 3334) (slopes (fromTo (− 1112) (− 1110)) zeroRange) 1 1 (739 to 742) (739 to 742);
+    }
+    -- `pow→1→3` on −10000..20000: V −10000..80000, G 0..120000, E −60000..120000
+    ∷ record {
+      factors = 1;
+      operations = Pow 1 3 ∷ [];
+      ranges = fromTo (− 10000) (pos 20000) ∷ [];
+      gives =
+          let e = fromTo (− 60000) (pos 120000) in
+          limits (fromTo (− 10000) (pos 80000)) (slopes (0 to 120000) zeroRange) 1 1 e e;
+    }
+    -- `mulc→1→-1` on 5000..5000: V −1..0, G −1..−1, B empty
+    ∷ record {
+      factors = 1;
+      operations = MulC 1 (− 1) ∷ [];
+      ranges = 5000 to 5000 ∷ [];
+      gives = limits (fromTo (− 1) (pos 0)) (slopes (fromTo (− 1) (− 1)) zeroRange) 1 0 zeroRange zeroRange;
+    }
+    -- Two factors, `pow→1→2`, ranges 10000..30000 and 0..10000: E 20000..20000, full 0..20000
+    ∷ record {
+      factors = 2;
+      operations = Pow 1 2 ∷ [];
+      ranges = 10000 to 30000 ∷ 0 to 10000 ∷ [];
+      gives = limits (10000 to 90000) (slopes (20000 to 60000) zeroRange) 1 1 (20000 to 20000) (0 to 20000);
+    }
+    -- Two factors on 0..10000, both squared and added: E 20000..20000
+    ∷ record {
+      factors = 2;
+      operations = Pow 1 2 ∷ Pow 2 2 ∷ Add 3 4 ∷ [];
+      ranges = 0 to 10000 ∷ 0 to 10000 ∷ [];
+      gives = limits (0 to 20000) (slopes (0 to 20000) (0 to 20000)) 3 3 (20000 to 20000) (20000 to 20000);
+    }
+    -- Ranges 10000..20000 and 30000..40000, `mul→1→2`, `pow→1→2`, `add→3→4`: V 40000..120000, slopes 50000..80000 and 10000..20000,
+    -- E −10000..30000
+    ∷ record {
+      factors = 2;
+      operations = Mul 1 2 ∷ Pow 1 2 ∷ Add 3 4 ∷ [];
+      ranges = 10000 to 20000 ∷ 30000 to 40000 ∷ [];
+      gives =
+          let e = fromTo (− 10000) (pos 30000) in
+          limits (40000 to 120000) (slopes (50000 to 80000) (10000 to 20000)) 3 3 e e;
+    }
+    -- Both ranges 10000..10000, `pow→1→2`, `mul→3→2`: E −20000..40000
+    ∷ record {
+      factors = 2;
+      operations = Pow 1 2 ∷ Mul 3 2 ∷ [];
+      ranges = 10000 to 10000 ∷ 10000 to 10000 ∷ [];
+      gives =
+          let e = fromTo (− 20000) (pos 40000) in
+          limits (10000 to 10000) (slopes (20000 to 20000) (10000 to 10000)) 3 3 e e;
+    }
+    -- `inv→1` on 0..10000: 11 at line 2
+    ∷ record { factors = 1; operations = Inv 1 ∷ []; ranges = 0 to 10000 ∷ []; gives = refused (Divisor 2) }
+    -- on 1..1: 12 at line 2
+    ∷ record { factors = 1; operations = Inv 1 ∷ []; ranges = 1 to 1 ∷ []; gives = refused (Overflow 2) }
+    ∷ []
+
+-- two numbers a range
+abbrev pub ends : List Range → List ℤ
+ends [] = []
+ends (r ∷ rs) = r .low ∷ r .high ∷ ends rs
+
+-- WHAT RATING GIVES for a figure, and that it is so for each
+abbrev pub ratingOf : Figure → Rating
+ratingOf f = rateOf (codelistOf (f .factors) (map (λ o. record { op = o }) (f .operations))) (ends (f .ranges))
+
+pub all-right : map ratingOf figures ≡ map (λ f. f .gives) figures
+unfolding rateOf rateRanges firstBad limitsOf last linesOf runOps factorLines rowOf invertsZero within lineOf
+    factorRow addRow addcRow mulcRow mulRow powRow invRow apart isSingle only
+    codelistOf wellFormed wellFormedOps blanksOnly isBlank
+    isValid bothValid kept sumOf negOf timesOf endsProduct productOf endsInverse inverseOf hullOf
+    chain upsWithin powAbove powBelow powAcrossEven powAcrossOdd powAcross powBySign powOf
+    has sumOver sum validBelow endsProducts productsOf largestSquare squareSum squaresOf rootSum rootOf
+    floorDiv ceilDiv floorQuot ceilQuot ceilSqrt floorSqrt rootBits ones onesIn trailingZeros
+all-right = refl
