@@ -1,0 +1,2 @@
+-- What the private contracts of the crate speak of.
+pub mod Terms

@@ -1,0 +1,46 @@
+-- The buyer's three demands, of what `load` and `rate` give: proved in proofs/Demands.antt. Every call has an outcome for every value of its parameters,
+-- since `loadedOf` and `ratedOf` are functions and the contracts of `load` and `rate` are equations with no condition.
+use mathlib.Core.Path.{_≡_}
+use mathlib.Core.List.{List}
+use mathlib.Core.Logic.{_↔_, _⊎_}
+use Prim.Native.Nat.{ℕ, _≤_}
+use lib.IntN.{ℤ}
+use Rattle.codelist.specs.declared.Codelist.{Codelist}
+use Rattle.codelist.specs.Codelist.{WellFormed}
+use Rattle.codelist.specs.Refused.{RefusedFor}
+use Rattle.codelist.specs.Write.{textOf}
+use Rattle.rules.specs.declared.Limits.{Limits}
+use Rattle.rules.specs.declared.Refusal.the-variants.{NoCodelist}
+use Rattle.rules.specs.Rate.{noLimits}
+use Rattle.rules.specs.Exact.{Point}
+use Rattle.rules.specs.Promises.{Inside, Sound}
+use Rattle.engine.specs.declared.Engine.{Engine}
+use Rattle.engine.specs.declared.Refusal as refusal
+use Rattle.engine.specs.declared.Refusal.{Refusal}
+use Rattle.engine.specs.declared.Outcome.the-variants.{Accepted, Refused}
+use Rattle.engine.specs.Engine.{numberOf, emptyEngine, loadedOf, ratedOf}
+
+pub record Demands : Type 0 where
+  -- 1. "gets the whole result or one numbered refusal of paper 01 with its place"
+  pub load-decided : (e : Engine) (s : List ℕ) → (loadedOf e s .outcome ≡ Accepted) ⊎ ((r : Refusal) × (loadedOf e s .outcome ≡ Refused r))
+  pub rate-decided : (e : Engine) (xs : List ℤ) → (ratedOf e xs .outcome ≡ Accepted) ⊎ ((r : Refusal) × (ratedOf e xs .outcome ≡ Refused r))
+  -- the numbers are 1 to 7 of loading, 8 to 12 of rating
+  pub load-numbers : (e : Engine) (s : List ℕ) (r : Refusal) → loadedOf e s .outcome ≡ Refused r → (1 ≤ numberOf r) × (numberOf r ≤ 7)
+  pub rate-numbers : (e : Engine) (xs : List ℤ) (r : Refusal) → ratedOf e xs .outcome ≡ Refused r → (8 ≤ numberOf r) × (numberOf r ≤ 12)
+  -- "After a refusal every result field is 0 and the desk holds what it held."
+  pub load-kept : (e : Engine) (s : List ℕ) (r : Refusal) → loadedOf e s .outcome ≡ Refused r → loadedOf e s .engine ≡ e
+  pub rate-zero : (e : Engine) (xs : List ℤ) (r : Refusal) → ratedOf e xs .outcome ≡ Refused r → ratedOf e xs .limits ≡ noLimits
+  -- 2. "A sheet is accepted only if 01's rules write it, and always then."
+  pub accepted-written : (e : Engine) (s : List ℕ)
+      → (loadedOf e s .outcome ≡ Accepted) ↔ ((c : Codelist) × (WellFormed c × (s ≡ textOf c)))
+  -- what is loaded is what the text writes
+  pub loaded-written : (e : Engine) (s : List ℕ) → loadedOf e s .outcome ≡ Accepted
+      → WellFormed (loadedOf e s .engine .codelist) × (s ≡ textOf (loadedOf e s .engine .codelist))
+  -- each refusal of loading says of the bytes what 01's table says
+  pub refused-listed : (e : Engine) (s : List ℕ) (r : Rattle.codelist.specs.declared.Refusal.Refusal)
+      → (loadedOf e s .outcome ≡ Refused (refusal.the-variants.Load r)) ↔ RefusedFor s r
+  -- an engine that was started and not loaded is refused with 10
+  pub empty-refused : (xs : List ℤ) → ratedOf emptyEngine xs .outcome ≡ Refused (refusal.the-variants.Rate NoCodelist)
+  -- 3. "Whatever accepted sheet and ranges, whatever point with fractions as coordinates inside them, whatever list v of whole numbers"
+  pub sound : (e : Engine) (xs : List ℤ) → ratedOf e xs .outcome ≡ Accepted → (p : Point) → Inside (e .codelist) xs p
+      → Sound (e .codelist) (ratedOf e xs .limits) p

@@ -1,0 +1,47 @@
+-- The calls of the engine (01's "desk"): "A desk is started empty, a sheet is loaded from bytes, and ranges are rated against the loaded sheet. Loading
+-- replaces an earlier sheet. Rating changes nothing on the desk."
+use mathlib.Core.List.{List}
+use Prim.Native.Nat.{ℕ}
+use lib.IntN.{ℤ}
+use Rattle.codelist.specs.declared.Outcome as loading
+use Rattle.codelist.specs.declared.Codelist.{Codelist}
+use Rattle.codelist.specs.Load as Load
+use Rattle.rules.specs.declared.Outcome as rating
+use Rattle.rules.specs.declared.Limits.{Limits}
+use Rattle.rules.specs.Rate as Rate
+use Rattle.engine.specs.declared.Engine.{Engine}
+use Rattle.engine.specs.declared.Refusal as refusal
+use Rattle.engine.specs.declared.Refusal.{Refusal}
+use Rattle.engine.specs.declared.Outcome.{Outcome}
+use Rattle.engine.specs.declared.Outcome.the-variants.{Accepted, Refused}
+use Rattle.engine.specs.declared.Loading.{Loading}
+use Rattle.engine.specs.declared.Rating.{Rating}
+
+-- 01's number and place of each refusal
+abbrev pub numberOf : Refusal → ℕ
+numberOf (refusal.the-variants.Load r) = Load.numberOf r
+numberOf (refusal.the-variants.Rate r) = Rate.numberOf r
+
+abbrev pub placeOf : Refusal → ℕ
+placeOf (refusal.the-variants.Load r) = Load.placeOf r
+placeOf (refusal.the-variants.Rate r) = Rate.placeOf r
+
+-- "A desk is started empty"
+unfoldable pub emptyEngine : Engine
+emptyEngine = record { codelist = Load.empty }
+
+-- "Loading replaces an earlier sheet", and of a refusal "the desk is as before"
+abbrev pub loaded : Engine → loading.Outcome → Codelist → Loading
+loaded e loading.the-variants.Accepted c = record { outcome = Accepted; engine = record { codelist = c } }
+loaded e (loading.the-variants.Refused r) c = record { outcome = Refused (refusal.the-variants.Load r); engine = e }
+
+unfoldable pub loadedOf : Engine → List ℕ → Loading
+loadedOf e s = loaded e (Load.loadOf s .outcome) (Load.loadOf s .codelist)
+
+-- Rating is a function of the codelist and the ranges
+abbrev pub outcomeOf : rating.Outcome → Outcome
+outcomeOf rating.the-variants.Rated = Accepted
+outcomeOf (rating.the-variants.Refused r) = Refused (refusal.the-variants.Rate r)
+
+unfoldable pub ratedOf : Engine → List ℤ → Rating
+ratedOf e xs = record { outcome = outcomeOf (Rate.rateOf (e .codelist) xs .outcome); limits = Rate.rateOf (e .codelist) xs .limits }

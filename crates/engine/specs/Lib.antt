@@ -1,0 +1,3 @@
+-- The state between calls, and the three demands of what its calls give.
+pub mod Engine
+pub mod Demands
