@@ -35,14 +35,14 @@ pub record Accepted (c : Codelist) (xs : List ℤ) (l : Limits) : Type 0 where
   pub ran : linesOf c (pairs xs) ≡ through lines
   pub limits : l ≡ limitsOf (c .factors) (last lines)
 
-pairs-length : (xs : List ℤ) (n : ℕ) → length xs ≡ 2 * n → length (pairs xs) ≡ n
+pub pairs-length : (xs : List ℤ) (n : ℕ) → length xs ≡ 2 * n → length (pairs xs) ≡ n
 pairs-length [] n e = omega arith
 pairs-length (l ∷ []) n e = absurd (omega arith)
 pairs-length (l ∷ h ∷ xs) zero e = absurd (omega arith)
 pairs-length (l ∷ h ∷ xs) (suc n) e = ap suc (pairs-length xs n (omega arith))
 
 -- ---- which answers are limits
-not-rated : {r : Refusal} {l : Limits} → refused r ≡ rated l → ⊥
+pub not-rated : {r : Refusal} {l : Limits} → refused r ≡ rated l → ⊥
 not-rated e = let o = ap (λ (a : Rating). a .outcome) e in let z : _≡_ {A = ℕ} 0 1 = cc in omega arith
 
 passed : (r : Refusal) {l : Limits} (b : Bool) {a : Rating} → cond b a (refused r) ≡ rated l → (b ≡ true) × (a ≡ rated l)

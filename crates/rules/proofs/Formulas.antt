@@ -13,9 +13,13 @@ use Rattle.range.specs.Arithmetic.{greaterOf, holdsZero}
 use Rattle.range.specs.Power.{U, isEven, upsWithin, ups, upsOf}
 use Rattle.range.specs.Sums.{validOver}
 use Rattle.range.proofs.Valid.{false-T, ends-of}
-use Rattle.range.proofs.Ordered.{Ordered, sum-ordered, neg-ordered, times-ordered, product-ordered, inverse-ordered, hull-ordered, power-ordered, products-ordered, squares-ordered, root-ordered, AllOrdered, none-ordered, append-ordered, one-ordered, upsOf-ordered}
-use Rattle.range.proofs.Unlimited.{Limited, limited-valid, upsTest, given-limited, sum-limited, neg-limited, times-limited, product-limited, inverse-limited, hull-limited, power-limited, products-limited, squares-limited, root-limited}
-use Rattle.rules.specs.Formula.{Formula, given, _⊕_, _⊗_, negated, times, power, inverse, hull, sumOfProducts, sumOfSquares, rootOfSquares, choose, sticky, unlimited, produced}
+use Rattle.range.proofs.Ordered.{Ordered, sum-ordered, neg-ordered, times-ordered, product-ordered, inverse-ordered, hull-ordered}
+use Rattle.range.proofs.Ordered.{power-ordered, products-ordered, squares-ordered, root-ordered, AllOrdered, none-ordered, append-ordered}
+use Rattle.range.proofs.Ordered.{one-ordered, upsOf-ordered}
+use Rattle.range.proofs.Unlimited.{Limited, limited-valid, upsTest, given-limited, sum-limited, neg-limited, times-limited, product-limited}
+use Rattle.range.proofs.Unlimited.{inverse-limited, hull-limited, power-limited, products-limited, squares-limited, root-limited}
+use Rattle.rules.specs.Formula.{Formula, given, _⊕_, _⊗_, negated, times, power, inverse, hull, sumOfProducts, sumOfSquares}
+use Rattle.rules.specs.Formula.{rootOfSquares, choose, sticky, unlimited, produced}
 use Rattle.rules.specs.Overflow.{withinLimit, allWithin}
 
 -- ---- tests of produced ranges

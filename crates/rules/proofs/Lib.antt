@@ -1,4 +1,4 @@
--- Laws of the rules, and the proofs of what they promise: `Sound.sound`.
+-- Laws of the rules, and the proofs of what they promise: `Sound.sound`, `Shaped.shaped`, and of refusals: `Refused.refused-exactly`.
 pub mod Members
 pub mod Along
 pub mod Accepted
@@ -16,7 +16,8 @@ pub mod SpectrumCross
 pub mod SpectrumRows
 pub mod Whole
 pub mod Sound
--- specs/Overflow: refusal 12, and where a run stops
+pub mod Shaped
+-- specs/Overflow and specs/Refused: refusal 12, where a run stops, and each refusal of rating
 pub mod Formulas
 pub mod Passing
 pub mod Overflow

@@ -3,7 +3,6 @@
 use mathlib.Core.Path.{_≡_, refl, sym, ap₂, _∙_}
 use mathlib.Core.Bool.{Bool, true, false, _&&_, cond}
 use mathlib.Core.List.{List, [], _∷_, map}
-use mathlib.Core.Logic.{_↔_}
 use Prim.Native.Nat.{ℕ, zero, suc, _≤_, _-_}
 use lib.Dec.{T, eqb}
 use lib.IntN.{ℤ, pos, negsuc, natAbs}
@@ -14,21 +13,19 @@ use Rattle.codelist.specs.Codelist.{limit, WellFormedOp}
 use Rattle.exact.specs.Int.{ints}
 use Rattle.range.specs.declared.Range.{Range}
 use Rattle.range.specs.Limit.{fromTo, zeroRange, oneRange, isValid}
-use Rattle.range.specs.Arithmetic.{holdsZero, hullOf}
+use Rattle.range.specs.Arithmetic.{holdsZero}
 use Rattle.range.specs.Sums.{at, validOver}
-use Rattle.range.proofs.Valid.{T-true, true-T, and-left, and-right, valid-of}
-use Rattle.range.proofs.Fitting.{hull-valid, hullOf-is}
+use Rattle.range.proofs.Valid.{true-T, and-left, and-right, valid-of}
 use Rattle.range.proofs.SumOver.{valid-over}
 use Rattle.range.proofs.Ordered.{AllOrdered, none-ordered, append-ordered}
 use Rattle.rules.specs.declared.Line.{Line}
 use Rattle.rules.specs.Formula.{given, inverse, sticky, unlimited, produced}
-use Rattle.rules.specs.Sets.{allOf, _∪_, only}
+use Rattle.rules.specs.Sets.{_∪_, only}
 use Rattle.rules.specs.Table.{Row, lineOf, factorRow, squareSpectrum, crossSpectrum, addRow, addcRow, mulcRow, mulRow, powRow, invRow}
 use Rattle.rules.specs.Run.{noLine, line, rowOf, invertsZero, eachValid, within}
-use Rattle.rules.specs.Rate.{limitsOf}
-use Rattle.rules.specs.Overflow.{allWithin, joined, stepsOf, AllLines, none, more, ExactOverflow}
+use Rattle.rules.specs.Overflow.{allWithin, joined, stepsOf, AllLines, none, more, ExactOverflow, ExactPassing}
 use Rattle.rules.proofs.Formulas.{Proper, all-append, exact-formula, in-order}
-use Rattle.rules.proofs.Passing.{Passing, passing-iff}
+use Rattle.rules.proofs.Passing.{passing-iff}
 
 -- ---- rows
 -- the factors, as `eight` takes them
@@ -168,15 +165,6 @@ factor-within i r t = exact-row (factorRow i r) (record { value = t; slope = λ 
     go true = tt
     go false = tt
 
--- the full spectrum's step, the one that comes after the lines, passes no limit
-pub full-within : (n : ℕ) (l : Line) → within l ≡ true → isValid (limitsOf n l .full) ≡ true
-unfolding limitsOf
-full-within n l w = go (eqb (l .nonlinear) (allOf n)) (T-true (valid-line l w .spectrum)) (T-true zero-valid)
-  where
-    go : (c : Bool) → isValid (l .spectrum) ≡ true → isValid zeroRange ≡ true → isValid (cond c (l .spectrum) (hullOf (l .spectrum) zeroRange)) ≡ true
-    go true v z = v
-    go false v z = rw (hullOf-is (l .spectrum) zeroRange v z) (hull-valid (l .spectrum) zeroRange v z)
-
 -- ---- the statement on refusal 12
 module _ (ls : List Line) (p : AllLines (λ l. within l ≡ true) ls) where
   operand : (i : ℕ) → ValidLine (line ls i)
@@ -194,7 +182,7 @@ module _ (ls : List Line) (p : AllLines (λ l. within l ≡ true) ls) where
 pub exact-overflow : ExactOverflow
 exact-overflow o ls w p z = exact-row (rowOf o ls) (proper ls p o w z)
 
--- A line is not within the limit exactly where an end of a range that one of its steps produces passes the limit.
-pub passes-iff : (o : Op) (ls : List Line) → WellFormedOp (length ls) o → AllLines (λ l. within l ≡ true) ls → invertsZero o ls ≡ false
-    → (within (lineOf (rowOf o ls)) ≡ false) ↔ Passing (stepsOf (rowOf o ls))
-passes-iff o ls w p z = rw (exact-overflow o ls w p z) (passing-iff (stepsOf (rowOf o ls)) (ordered-row (rowOf o ls) (proper ls p o w z)))
+pub passes-iff : ExactPassing
+passes-iff o ls w p z =
+    let r = rowOf o ls in
+    rw (exact-overflow o ls w p z) (passing-iff (stepsOf r) (ordered-row r (proper ls p o w z)))

@@ -1,11 +1,11 @@
--- Where rating refuses with 11 and with 12: `divisor-iff`, `overflow-iff`. Assumes nothing.
-use mathlib.Core.Path.{_≡_, refl, ap, _∙_}
-use mathlib.Core.Bool.{Bool, true, false, _&&_, cond}
+-- Rating refuses exactly as 01's tables say: `refused-exactly`. Assumes nothing.
+use mathlib.Core.Path.{_≡_, refl, sym, ap, subst, _∙_}
+use mathlib.Core.Bool.{Bool, true, false, cond}
 use mathlib.Core.List.{List, [], _∷_}
-use mathlib.Core.Logic.{_↔_}
-use Prim.Native.Nat.{ℕ, zero, suc, _*_, _≤_}
+use mathlib.Core.Logic.{_⊎_, inl, inr, _↔_}
+use Prim.Native.Nat.{ℕ, zero, suc, _+_, _*_, _-_, _≤_, _<_}
 use native.Mathlib.Omega.{arith}
-use lib.Dec.{T, eqb, lit≤}
+use lib.Dec.{eqb}
 use lib.IntN.{ℤ}
 use lib.ListN.{length}
 use borrow.Author.Tests.{eq-eqb, eqb-true}
@@ -14,127 +14,183 @@ use Rattle.codelist.specs.Codelist.{WellFormed, wellFormed}
 use Rattle.codelist.proofs.WellFormed as W
 use Rattle.range.specs.declared.Range.{Range}
 use Rattle.range.specs.Limit.{isValid}
-use Rattle.range.proofs.Valid.{T-true, true-T, and-left, and-right}
+use Rattle.range.specs.Sums.{at}
+use Rattle.range.proofs.Valid.{true-T}
 use Rattle.rules.specs.declared.Refusal.{Refusal}
-use Rattle.rules.specs.declared.Refusal.the-variants.{NoCodelist, RangeCount, Divisor, Overflow}
-use Rattle.rules.specs.declared.Outcome.the-variants.{Rated, Refused}
+use Rattle.rules.specs.declared.Refusal.the-variants.{NoCodelist, RangeCount, BadRange, Divisor, Overflow}
+use Rattle.rules.specs.declared.Outcome.the-variants.{Refused}
+use Rattle.rules.specs.declared.Limits.{Limits}
 use Rattle.rules.specs.declared.Rating.{Rating}
-use Rattle.rules.specs.Run.{eachValid, Lines, through, stopped, runOps, factorLines, operations, linesOf}
-use Rattle.rules.specs.Rate.{numberOf, refused, pairs, finished, firstBad, rateRanges, rateOf}
+use Rattle.rules.specs.Run.{Lines, through, stopped, factorLines, operations, linesOf}
+use Rattle.rules.specs.Rate.{limitsOf, last, rated, refused, pairs, finished, firstBad, rateRanges, rateOf}
 use Rattle.rules.specs.Overflow.{none, more}
+use Rattle.rules.specs.Refused.{rangeOf, Bad, Ratable, RefusedFor, RefusedExactly}
+use Rattle.rules.proofs.Accepted.{pairs-length, not-rated}
 use Rattle.rules.proofs.Overflow.{factor-within}
-use Rattle.rules.proofs.Stopped.{StoppedAt, Inverts, Passes, LinesWithin, run-divisor-iff, run-passes-iff}
-
--- Refusals 10, 8 and 9 do not apply.
-pub record Ratable (c : Codelist) (xs : List ℤ) : Type 0 where
-  pub codelist : WellFormed c
-  pub count : length xs ≡ 2 * c .factors
-  pub ranges : eachValid (pairs xs) ≡ true
+use Rattle.rules.proofs.Passing.{refuted-iff, bad-iff, good-iff}
+use Rattle.rules.proofs.Stopped.{LinesWithin, RunRefused, run-refused-iff}
 
 -- ---- the factors' ranges
-no-bad : (a : ℕ) (rs : List Range) → firstBad (suc a) rs ≡ 0 → eachValid rs ≡ true
+-- the first so many are good
+abbrev Good : ℕ → List Range → Type 0
+Good n rs = (i : ℕ) → i < n → ¬ (Bad (at rs i))
+
+good-more : {n : ℕ} {r : Range} (rs : List Range) → ¬ (Bad r) → Good n rs → Good (suc n) (r ∷ rs)
+good-more rs g gs zero l = g
+good-more rs g gs (suc i) l = gs i (omega arith)
+
+-- what the lowest bad one is, if they are counted from a
+data Found (a : ℕ) (rs : List Range) (n : ℕ) : Type 0 where
+  no-bad : n ≡ 0 → Good (length rs) rs → Found a rs n
+  bad-at : (i : ℕ) → n ≡ a + i → i < length rs → Bad (at rs i) → Good i rs → Found a rs n
+
+found : (a : ℕ) (rs : List Range) → Found a rs (firstBad a rs)
 unfolding firstBad
-no-bad a [] h = refl
-no-bad a (r ∷ rs) h = go (isValid r) (no-bad (suc a) rs) h
+found a [] = no-bad refl (λ i l. absurd (omega arith))
+found a (r ∷ rs) = go (isValid r) refl (found (suc a) rs)
   where
-    go : (c : Bool) → (firstBad (suc (suc a)) rs ≡ 0 → eachValid rs ≡ true) → cond c (firstBad (suc (suc a)) rs) (suc a) ≡ 0
-        → (c && eachValid rs) ≡ true
-    go true f h = f h
-    go false f h = absurd (omega arith)
+    go : (b : Bool) → isValid r ≡ b → Found (suc a) rs (firstBad (suc a) rs) → Found a (r ∷ rs) (cond b (firstBad (suc a) rs) a)
+    go false v f = bad-at 0 (omega arith) (omega arith) (bad-iff r .0 v) (λ i l. absurd (omega arith))
+    go true v (no-bad e g) = no-bad e (good-more rs (good-iff r .0 v) g)
+    go true v (bad-at i e l b g) = bad-at (suc i) (omega (arith, e)) (omega arith) b (good-more rs (good-iff r .0 v) g)
 
-module _ (r : Range) (rs : List Range) (h : eachValid (r ∷ rs) ≡ true) where
-  first-valid : T (isValid r)
-  first-valid = and-left (isValid r) (eachValid rs) (true-T h)
+none-bad : (a : ℕ) (rs : List Range) → Good (length rs) rs → firstBad a rs ≡ 0
+none-bad a rs g = go (found a rs)
+  where
+    go : {n : ℕ} → Found a rs n → n ≡ 0
+    go (no-bad e h) = e
+    go (bad-at i e l b h) = absurd (g i l b)
 
-  rest-valid : eachValid rs ≡ true
-  rest-valid = T-true (and-right (isValid r) (eachValid rs) (true-T h))
-
-bad-none : (a : ℕ) (rs : List Range) → eachValid rs ≡ true → firstBad a rs ≡ 0
+lowest-bad : (a : ℕ) (rs : List Range) (i : ℕ) → i < length rs → Bad (at rs i) → Good i rs → firstBad a rs ≡ a + i
 unfolding firstBad
-bad-none a [] h = refl
-bad-none a (r ∷ rs) h = let v : isValid r ≡ true = T-true (first-valid r rs h) in rw v (bad-none (suc a) rs (rest-valid r rs h))
+lowest-bad a [] i l b g = absurd (omega arith)
+lowest-bad a (r ∷ rs) zero l b g = let v : isValid r ≡ false = bad-iff r .1 b in rw v (omega arith)
+lowest-bad a (r ∷ rs) (suc i) l b g =
+    let v : isValid r ≡ true = good-iff r .1 (g 0 (omega arith)) in
+    rw v (omega (arith, lowest-bad (suc a) rs i (omega arith) b (λ j k. g (suc j) (omega arith))))
 
-pairs-length : (n : ℕ) (xs : List ℤ) → length xs ≡ 2 * n → length (pairs xs) ≡ n
-pairs-length zero [] h = refl
-pairs-length zero (l ∷ xs) h = absurd (omega arith)
-pairs-length (suc n) [] h = absurd (omega arith)
-pairs-length (suc n) (l ∷ []) h = absurd (omega arith)
-pairs-length (suc n) (l ∷ u ∷ xs) h = ap suc (pairs-length n xs (omega arith))
-
-factors-within : (i : ℕ) (rs : List Range) → eachValid rs ≡ true → LinesWithin (length rs) (factorLines i rs)
+factors-within : (i : ℕ) (rs : List Range) → Good (length rs) rs → LinesWithin (length rs) (factorLines i rs)
 unfolding factorLines
-factors-within i [] h = record { each = none; count = refl }
-factors-within i (r ∷ rs) h =
-    let g = factors-within (suc i) rs (rest-valid r rs h) in
-    record { each = more (factor-within i r (first-valid r rs h)) (g .each); count = ap suc (g .count) }
-
-pub ratable-lines : {c : Codelist} {xs : List ℤ} → Ratable c xs → LinesWithin (c .factors) (factorLines 0 (pairs xs))
-ratable-lines {c} {xs} i =
-    let g = factors-within 0 (pairs xs) (i .ranges) in
-    record { each = g .each; count = g .count ∙ pairs-length (c .factors) xs (i .count) }
+factors-within i [] g = record { each = none; count = refl }
+factors-within i (r ∷ rs) g =
+    let f = factors-within (suc i) rs (λ j l. g (suc j) (omega arith)) in
+    record { each = more (factor-within i r (true-T (good-iff r .1 (g 0 (omega arith))))) (f .each); count = ap suc (f .count) }
 
 -- ---- rating
 same-refusal : {r s : Refusal} → refused r ≡ refused s → r ≡ s
 same-refusal {r} {s} h = let e : Refused r ≡ Refused s = ap (λ (x : Rating). x .outcome) h in cc
 
-finished-stopped : (n : ℕ) (r : Refusal) (x : Lines) → finished n x ≡ refused r → x ≡ stopped r
-finished-stopped n r (through ls) h =
-    let e : Rated ≡ Refused r = ap (λ (x : Rating). x .outcome) h in
-    let z : _≡_ {A = ℕ} 0 1 = cc in
-    absurd (omega arith)
-finished-stopped n r (stopped s) h = ap stopped (same-refusal h)
-
 module _ (c : Codelist) (xs : List ℤ) where
-  pub ratable-rate : Ratable c xs → rateOf c xs ≡ finished (c .factors) (linesOf c (pairs xs))
+  formed-iff : (wellFormed c ≡ true) ↔ WellFormed c
+  formed-iff = W.decides c
+
+  count-iff : (eqb (length xs) (2 * c .factors) ≡ true) ↔ (length xs ≡ 2 * c .factors)
+  count-iff = (eqb-true (length xs) (2 * c .factors), eq-eqb (length xs) (2 * c .factors))
+
+  -- factors are counted from 1 in a refusal, and ranges from 0 in a list
+  from-zero : {n : ℕ} → ((a : ℕ) → 1 ≤ a → a ≤ n → ¬ (Bad (rangeOf xs a))) → Good n (pairs xs)
+  from-zero f i l = let e : suc i - 1 ≡ i = omega arith in rw e at (f (suc i) (omega arith) (omega arith))
+
+  good-ranges : Ratable c xs → Good (length (pairs xs)) (pairs xs)
+  good-ranges t = rw (pairs-length xs (c .factors) (t .count)) (from-zero (t .good))
+
+  -- the ranges are looked at
+  counted : WellFormed c → length xs ≡ 2 * c .factors → rateOf c xs ≡ rateRanges c (pairs xs) (firstBad 1 (pairs xs))
+  unfolding rateOf
+  counted w n = let f = formed-iff .1 w in let g = count-iff .1 n in rw (f, g)
+
+  -- the lines are run
+  module _ (t : Ratable c xs) where
+    ran : rateOf c xs ≡ finished (c .factors) (linesOf c (pairs xs))
+    unfolding rateRanges
+    ran = counted (t .codelist) (t .count) ∙ ap (rateRanges c (pairs xs)) (none-bad 1 (pairs xs) (good-ranges t))
+
+    run-iff : (r : Refusal) → (linesOf c (pairs xs) ≡ stopped r) ↔ RunRefused r (operations c) (factorLines 0 (pairs xs))
+    unfolding linesOf
+    run-iff r =
+        let f = factors-within 0 (pairs xs) (good-ranges t) in
+        run-refused-iff (operations c) (factorLines 0 (pairs xs)) (t .codelist .each)
+        (record { each = f .each; count = f .count ∙ pairs-length xs (c .factors) (t .count) })
+        r
+
+  -- ---- as the tables say
+  data Class (x : Rating) : Type 0 where
+    kept : (l : Limits) → x ≡ rated l → Class x
+    turned-down : (r : Refusal) → x ≡ refused r → RefusedFor c xs r → Class x
+
+  class-lines : Ratable c xs → Class (finished (c .factors) (linesOf c (pairs xs)))
+  class-lines t = go (linesOf c (pairs xs)) (λ r. run-iff t r .0)
+    where
+      go : (x : Lines) → ((r : Refusal) → x ≡ stopped r → RunRefused r (operations c) (factorLines 0 (pairs xs)))
+          → Class (finished (c .factors) x)
+      go (through ls) f = kept (limitsOf (c .factors) (last ls)) refl
+      go (stopped NoCodelist) f = absurd (f NoCodelist refl)
+      go (stopped RangeCount) f = absurd (f RangeCount refl)
+      go (stopped (BadRange a)) f = absurd (f (BadRange a) refl)
+      go (stopped (Divisor k)) f = turned-down (Divisor k) refl (t, f (Divisor k) refl)
+      go (stopped (Overflow k)) f = turned-down (Overflow k) refl (t, f (Overflow k) refl)
+
+  class-ranges : WellFormed c → length xs ≡ 2 * c .factors → (n : ℕ) → Found 1 (pairs xs) n → Class (rateRanges c (pairs xs) n)
+  unfolding rateRanges
+  class-ranges w m zero (no-bad e g) =
+      class-lines (record { codelist = w; count = m; good = λ a p l. g (a - 1) (omega (arith, pairs-length xs (c .factors) m)) })
+  class-ranges w m zero (bad-at i e l b g) = absurd (omega arith)
+  class-ranges w m (suc n) (no-bad e g) = absurd (omega arith)
+  class-ranges w m (suc n) (bad-at i e l b g) =
+      let first : suc n - 1 ≡ i = omega arith in
+      turned-down (BadRange (suc n)) refl
+      (record {
+        codelist = w;
+        count = m;
+        factor = (omega arith, omega (arith, pairs-length xs (c .factors) m));
+        bad = rw first b;
+        lower = λ a p k. g (a - 1) (omega arith);
+      })
+
+  classify : Class (rateOf c xs)
+  unfolding rateOf
+  classify = go (wellFormed c) (eqb (length xs) (2 * c .factors)) refl refl
+    where
+      go : (b d : Bool) → wellFormed c ≡ b → eqb (length xs) (2 * c .factors) ≡ d
+          → Class (cond b (cond d (rateRanges c (pairs xs) (firstBad 1 (pairs xs))) (refused RangeCount)) (refused NoCodelist))
+      go false d p q = turned-down NoCodelist refl (refuted-iff true formed-iff .0 p)
+      go true false p q = turned-down RangeCount refl (formed-iff .0 p, refuted-iff true count-iff .0 q)
+      go true true p q = class-ranges (formed-iff .0 p) (count-iff .0 q) (firstBad 1 (pairs xs)) (found 1 (pairs xs))
+
+  refused-sound : (r : Refusal) → rateOf c xs ≡ refused r → RefusedFor c xs r
+  refused-sound r h = go classify
+    where
+      go : Class (rateOf c xs) → RefusedFor c xs r
+      go (kept l e) = absurd (not-rated (sym h ∙ e))
+      go (turned-down q e t) = subst (RefusedFor c xs) (same-refusal (sym e ∙ h)) t
+
+  late-complete : Ratable c xs → (r : Refusal) → RunRefused r (operations c) (factorLines 0 (pairs xs)) → rateOf c xs ≡ refused r
+  late-complete t r s = ran t ∙ ap (finished (c .factors)) (run-iff t r .1 s)
+
+  refused-complete : (r : Refusal) → RefusedFor c xs r → rateOf c xs ≡ refused r
   unfolding rateOf rateRanges
-  ratable-rate i =
-      let w : wellFormed c ≡ true = W.decides c .1 (i .codelist) in
-      let n : eqb (length xs) (2 * c .factors) ≡ true = eq-eqb (length xs) (2 * c .factors) (i .count) in
-      let b : firstBad 1 (pairs xs) ≡ 0 = bad-none 1 (pairs xs) (i .ranges) in
-      rw (w, n, b)
+  refused-complete NoCodelist n = let f = refuted-iff true formed-iff .1 n in rw f
+  refused-complete RangeCount (w, n) = let f = formed-iff .1 w in let g = refuted-iff true count-iff .1 n in rw (f, g)
+  refused-complete (BadRange zero) t = absurd (omega (arith, t .factor .0))
+  refused-complete (BadRange (suc a)) t =
+      let e : suc a - 1 ≡ a = omega arith in
+      let l : a < length (pairs xs) = omega (arith, t .factor .1, pairs-length xs (c .factors) (t .count)) in
+      let n : firstBad 1 (pairs xs) ≡ suc a =
+      lowest-bad 1 (pairs xs) a l (rw e at (t .bad)) (from-zero (λ b p k. t .lower b p (omega arith))) ∙ omega arith in
+      counted (t .codelist) (t .count) ∙ ap (rateRanges c (pairs xs)) n
+  refused-complete (Divisor k) (t, s) = late-complete t (Divisor k) s
+  refused-complete (Overflow k) (t, s) = late-complete t (Overflow k) s
 
-  module _ (r : Refusal) (after : 11 ≤ numberOf r) where
-    reached : rateOf c xs ≡ refused r → Ratable c xs × (linesOf c (pairs xs) ≡ stopped r)
-    unfolding rateOf rateRanges
-    reached h = go (wellFormed c) (eqb (length xs) (2 * c .factors)) (firstBad 1 (pairs xs)) refl refl refl h
-      where
-        -- no other refusal has such a number
-        clash : {s : Refusal} → refused s ≡ refused r → (numberOf s ≤ 10) → ⊥
-        clash h l = omega (arith, ap numberOf (same-refusal h))
-
-        go : (b d : Bool) (a : ℕ) → wellFormed c ≡ b → eqb (length xs) (2 * c .factors) ≡ d → firstBad 1 (pairs xs) ≡ a
-            → cond b (cond d (rateRanges c (pairs xs) a) (refused RangeCount)) (refused NoCodelist) ≡ refused r
-            → Ratable c xs × (linesOf c (pairs xs) ≡ stopped r)
-        go false d a p q s h = absurd (clash h (lit≤ tt))
-        go true false a p q s h = absurd (clash h (lit≤ tt))
-        go true true (suc a) p q s h = absurd (clash h (lit≤ tt))
-        go true true zero p q s h = (
-          record { codelist = W.decides c .0 p; count = eqb-true (length xs) (2 * c .factors) q; ranges = no-bad 0 (pairs xs) s },
-          finished-stopped (c .factors) r (linesOf c (pairs xs)) h,
-        )
-
-    -- a refusal that comes after 10, 8 and 9 is one of the run
-    pub refused-iff : (rateOf c xs ≡ refused r) ↔ (Ratable c xs × (linesOf c (pairs xs) ≡ stopped r))
-    refused-iff = (reached, λ p. ratable-rate (p .0) ∙ ap (finished (c .factors)) (p .1))
-
-  module _ (k : ℕ) where
-    -- RATING REFUSES WITH 11 AT k exactly where 10, 8 and 9 do not apply, the lines before k run through, and line k inverts a range that
-    -- holds 0.
-    pub divisor-iff : (rateOf c xs ≡ refused (Divisor k)) ↔ (Ratable c xs × StoppedAt (Inverts k) (operations c) (factorLines 0 (pairs xs)))
-    unfolding linesOf
-    divisor-iff =
-        let f = refused-iff (Divisor k) (lit≤ tt) in
-        let g = run-divisor-iff (operations c) (factorLines 0 (pairs xs)) k in
-        (λ h. let p = f .0 h in (p .0, g .0 (p .1)), λ p. f .1 (p .0, g .1 (p .1)))
-
-    -- RATING REFUSES WITH 12 AT k exactly where 10, 8 and 9 do not apply, the lines before k run through, line k inverts no range that
-    -- holds 0, and an end of a range that one of its steps produces passes the limit.
-    pub overflow-iff : (rateOf c xs ≡ refused (Overflow k)) ↔ (Ratable c xs × StoppedAt (Passes k) (operations c) (factorLines 0 (pairs xs)))
-    unfolding linesOf
-    overflow-iff =
-        let f = refused-iff (Overflow k) (lit≤ tt) in
-        (λ h. let p = f .0 h in (p .0, run (p .0) .0 (p .1)), λ p. f .1 (p .0, run (p .0) .1 (p .1)))
-      where
-        run : Ratable c xs
-            → let ls = factorLines 0 (pairs xs) in (runOps (operations c) ls ≡ stopped (Overflow k)) ↔ StoppedAt (Passes k) (operations c) ls
-        run i = run-passes-iff (operations c) (factorLines 0 (pairs xs)) k (i .codelist .each) (ratable-lines i)
+-- REFUSED EXACTLY AS THE TABLES SAY
+pub refused-exactly : RefusedExactly
+refused-exactly = record {
+  where-listed = λ c xs r. (refused-sound c xs r, refused-complete c xs r);
+  decided = λ c xs. go c xs (classify c xs);
+  one-refusal = λ c xs q r s t. same-refusal (sym (refused-complete c xs q s) ∙ refused-complete c xs r t);
+  not-both = λ c xs l r e t. not-rated (sym (refused-complete c xs r t) ∙ e);
+}
+  where
+    go : (c : Codelist) (xs : List ℤ) → Class c xs (rateOf c xs)
+        → ((l : Limits) × (rateOf c xs ≡ rated l)) ⊎ ((r : Refusal) × RefusedFor c xs r)
+    go c xs (kept l e) = inl (l, e)
+    go c xs (turned-down r e t) = inr (r, t)

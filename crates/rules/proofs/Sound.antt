@@ -5,7 +5,7 @@ use mathlib.Core.List.{List}
 use mathlib.Core.Option.{some}
 use Prim.Native.Nat.{ℕ, _≤_, _<_}
 use native.Mathlib.Omega.{arith}
-use lib.Dec.{T, eqb}
+use lib.Dec.{T}
 use lib.IntN.{ℤ}
 use Rattle.algebra.proofs.Form.{form, form-longer}
 use Rattle.algebra.proofs.Restricted.{sum-restricted}
@@ -13,24 +13,24 @@ use Rattle.algebra.proofs.Sum.{sum-longer}
 use Rattle.codelist.specs.declared.Codelist.{Codelist}
 use Rattle.exact.proofs.Rat.{ℚ, 0ℚ, ℚ-ring}
 use Rattle.range.specs.declared.Range.{Range}
-use Rattle.range.specs.Limit.{zeroRange, isValid}
-use Rattle.range.specs.Arithmetic.{hullOf}
+use Rattle.range.specs.Limit.{isValid}
 use Rattle.range.specs.Sums.{has, sumOver, at}
 use Rattle.range.proofs.Valid.{T-true, true-T}
-use Rattle.range.proofs.Fitting.{hull-valid, hullOf-is}
 use Rattle.range.proofs.Bounded.{ScaledEnds}
 use Rattle.rules.specs.declared.Line.{Line}
 use Rattle.rules.specs.declared.Limits.{Limits}
-use Rattle.rules.specs.Formula.{given, sticky}
+use Rattle.rules.specs.Formula.{given}
 use Rattle.rules.specs.Sets.{allOf}
-use Rattle.rules.specs.Table.{extended, factorRow, lineOf}
+use Rattle.rules.specs.Table.{factorRow, lineOf}
+use Rattle.rules.specs.Run.{within}
 use Rattle.rules.specs.Rate.{last, limitsOf, pairs}
 use Rattle.rules.specs.Exact.{Point, factorJet, premiumOf}
 use Rattle.rules.specs.Promises.{Inside, entry, quadratic, squaresIn, squaresAll, Between, HasValue, Sound, SoundRating}
 use Rattle.rules.proofs.Members.{Below, beyond, below-power, below-part, below-all, below-allOf, in-all}
 use Rattle.rules.proofs.InnerProducts.{weight}
-use Rattle.rules.proofs.SpectrumSum.{extended-bounded}
+use Rattle.rules.proofs.SpectrumSum.{extended-valid, extended-bounded}
 use Rattle.rules.proofs.Independent.{Given, given-some}
+use Rattle.rules.proofs.Enclosed.{spectrum-valid}
 use Rattle.rules.proofs.Along.{along-first}
 use Rattle.rules.proofs.Accepted.{Accepted, accepted, every-line, last-line}
 use Rattle.rules.proofs.Whole.{Whole, WholeLine, whole-factor, whole-kept}
@@ -58,18 +58,6 @@ module _ {n : ℕ} (few : n ≤ 8) (v : List ℤ) where
 
 between : {r : Range} {s q x y : ℚ} → ScaledEnds s x r → s ≡ q → x ≡ y → Between r q y
 between w e f = record { low = rw (← e, ← f) (w .low); high = rw (← e, ← f) (w .high) }
-
--- an extended spectrum is within the limit
-extended-valid : (e : Range) (b c : ℕ) → T (isValid e) → T (isValid (sticky (extended (given e) b c)))
-unfolding isValid
-extended-valid e b c t = go (eqb b c)
-  where
-    zero-valid : isValid zeroRange ≡ true
-    zero-valid = refl
-
-    go : (d : Bool) → T (isValid (cond d e (hullOf e zeroRange)))
-    go true = t
-    go false = rw (hullOf-is e zeroRange (T-true t) zero-valid) (true-T (hull-valid e zeroRange (T-true t) zero-valid))
 
 -- ════ the last line ════
 
@@ -139,3 +127,8 @@ module _ {c : Codelist} {xs : List ℤ} {l : Limits} (A : Accepted c xs l) (p : 
 pub sound : SoundRating
 unfolding n result
 sound c xs l e p i = let A = accepted c xs l e in subst (λ t. Sound c t p) (sym (A .limits)) (last-sound A p i)
+
+-- The full spectrum's step, the one that comes after the lines, passes no limit.
+pub full-within : (n : ℕ) (l : Line) → within l ≡ true → isValid (limitsOf n l .full) ≡ true
+unfolding limitsOf
+full-within n l w = T-true (extended-valid (l .spectrum) (l .nonlinear) (allOf n) (spectrum-valid l (true-T w)))

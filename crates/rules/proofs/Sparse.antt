@@ -53,7 +53,7 @@ times-zero : (k : ℕ) {a : Range} → IfValid Zero a → IfValid Zero (timesOf 
 unfolding timesOf
 times-zero k {a} h = sticky₁-holds Zero (endsTimes k) a (λ t. rw (h t, *ℤ-zero (pos k)))
 
-product-zero : (a : Range) {b : Range} → IfValid Zero b → IfValid Zero (productOf a b)
+pub product-zero : (a : Range) {b : Range} → IfValid Zero b → IfValid Zero (productOf a b)
 unfolding productOf endsProduct floorDiv ceilDiv
 product-zero a {b} h = sticky₂-holds Zero endsProduct a b (λ t u. rw (h u, *ℤ-zero (a .low), *ℤ-zero (a .high)))
 

@@ -18,12 +18,17 @@ use Rattle.range.proofs.Holds.{Between}
 use Rattle.rules.specs.declared.Line.{Line}
 use Rattle.rules.specs.Table.{factorRow, addRow, addcRow, mulcRow, mulRow, powRow, invRow, lineOf}
 use Rattle.rules.specs.Run.{line, rowOf, within}
-use Rattle.rules.specs.Exact.{Point, coordinate, Jet, factorJet, addJet, addcJet, mulcJet, mulJet, powJet, invJet, using1, using2, invert, jet, exactNext}
-use Rattle.rules.proofs.Supported.{Supported, factor-supported, addc-supported, mulc-supported, pow-supported, inv-supported, add-supported, mul-supported}
-use Rattle.rules.proofs.Independent.{Given, given1, given2, given-some, Independent, factor-independent, addc-independent, mulc-independent, pow-independent, inv-independent, add-independent, mul-independent}
-use Rattle.rules.proofs.Enclosed.{Enclosed, value-∈, first-∈, spectrum-valid, divisor, factor-enclosed, addc-enclosed, mulc-enclosed, pow-enclosed, inv-enclosed, add-enclosed, mul-enclosed}
+use Rattle.rules.specs.Exact.{Point, coordinate, Jet, factorJet, addJet, addcJet, mulcJet, mulJet, powJet, invJet, using1, using2}
+use Rattle.rules.specs.Exact.{invert, jet, exactNext}
+use Rattle.rules.proofs.Supported.{Supported, factor-supported, addc-supported, mulc-supported, pow-supported, inv-supported}
+use Rattle.rules.proofs.Supported.{add-supported, mul-supported}
+use Rattle.rules.proofs.Independent.{Given, given1, given2, given-some, Independent, factor-independent, addc-independent}
+use Rattle.rules.proofs.Independent.{mulc-independent, pow-independent, inv-independent, add-independent, mul-independent}
+use Rattle.rules.proofs.Enclosed.{Enclosed, value-∈, first-∈, spectrum-valid, divisor, factor-enclosed, addc-enclosed, mulc-enclosed}
+use Rattle.rules.proofs.Enclosed.{pow-enclosed, inv-enclosed, add-enclosed, mul-enclosed}
 use Rattle.rules.proofs.Sparse.{Sparse, factor-sparse, addc-sparse, mulc-sparse, pow-sparse, inv-sparse, add-sparse, mul-sparse}
-use Rattle.rules.proofs.SpectrumRows.{Curved, Known, factor-curved, addc-curved, mulc-curved, pow-curved, inv-curved, add-curved, mul-curved}
+use Rattle.rules.proofs.SpectrumRows.{Curved, Known, factor-curved, addc-curved, mulc-curved, pow-curved, inv-curved, add-curved}
+use Rattle.rules.proofs.SpectrumRows.{mul-curved}
 use Rattle.rules.proofs.Along.{Along, along-line, Kept}
 
 -- a line of a codelist with n factors: x at the point p, u at q

@@ -15,7 +15,7 @@ use Rattle.exact.specs.Units.{units}
 use Rattle.range.specs.Inclusion.{num, _^_}
 use Rattle.rules.specs.Run.{operations}
 
--- "A point gives each factor a fraction, its coordinate": factors are counted from 0 here.
+-- "A point gives each factor a fraction, its coordinate": factors are counted from 0 here, and a coordinate that is not listed is 0.
 abbrev pub Point : Type 0
 Point = List ℚ
 
@@ -29,7 +29,9 @@ pub record Jet : Type 0 where
   pub second : ℕ → ℕ → ℚ
 
 -- ════ the table ════
+-- In each row "value | first | second", as 01 has them.
 
+-- factor i: "coordinate i | 1 at i, else 0 | 0"
 unfoldable pub factorJet : Point → ℕ → Jet
 factorJet p i = record {
   value = coordinate p i;
@@ -37,6 +39,7 @@ factorJet p i = record {
   second = λ a b. 0ℚ;
 }
 
+-- add: "x + y | x_a + y_a | x_ab + y_ab"
 unfoldable pub addJet : Jet → Jet → Jet
 addJet x y = record {
   value = x .value +ℚ y .value;
@@ -44,6 +47,7 @@ addJet x y = record {
   second = λ a b. x .second a b +ℚ y .second a b;
 }
 
+-- addc: "x + c/10,000 | x_a | x_ab"
 unfoldable pub addcJet : Jet → ℤ → Jet
 addcJet x c = record {
   value = x .value +ℚ units c;
@@ -51,6 +55,7 @@ addcJet x c = record {
   second = x .second;
 }
 
+-- mulc: "x·c/10,000 | x_a·c/10,000 | x_ab·c/10,000"
 unfoldable pub mulcJet : Jet → ℤ → Jet
 mulcJet x c = record {
   value = x .value *ℚ units c;
@@ -58,6 +63,7 @@ mulcJet x c = record {
   second = λ a b. x .second a b *ℚ units c;
 }
 
+-- mul: "x·y | x·y_a + y·x_a | x·y_ab + y·x_ab + x_a·y_b + x_b·y_a"
 unfoldable pub mulJet : Jet → Jet → Jet
 mulJet x y = record {
   value = x .value *ℚ y .value;
@@ -65,6 +71,7 @@ mulJet x y = record {
   second = λ a b. x .value *ℚ y .second a b +ℚ y .value *ℚ x .second a b +ℚ x .first a *ℚ y .first b +ℚ x .first b *ℚ y .first a;
 }
 
+-- pow: "x^m | m·x^(m−1)·x_a | m·x^(m−1)·x_ab + m(m−1)·x^(m−2)·x_a·x_b"; "x^0 is 1"
 unfoldable pub powJet : Jet → ℕ → Jet
 powJet x m = record {
   value = x .value ^ m;
@@ -72,7 +79,7 @@ powJet x m = record {
   second = λ a b. num m *ℚ x .value ^ (m - 1) *ℚ x .second a b +ℚ num (m * (m - 1)) *ℚ x .value ^ (m - 2) *ℚ x .first a *ℚ x .first b;
 }
 
--- y is 1/x, so that x_a/x² is x_a·y²
+-- inv: "1/x | −x_a/x² | 2·x_a·x_b/x³ − x_ab/x²", with y for 1/x: x_a/x² is x_a·y²
 unfoldable pub invJet : Jet → ℚ → Jet
 invJet x y = record {
   value = y;

@@ -1,10 +1,11 @@
--- Formulas over ranges, as 01's table has them: each operation of a formula is a step. A formula has two values: `sticky`, which the engine works out,
--- and `unlimited`, in the arithmetic without a limit; `produced` are the ranges that its steps produce without a limit.
+-- Formulas over ranges, as 01's table has them: each operation of a formula is a step. A formula has two values: `sticky`, which the engine
+-- works out, and `unlimited`, in the arithmetic without a limit; `produced` are the ranges that its steps produce without a limit.
 use mathlib.Core.Bool.{Bool, cond}
 use mathlib.Core.List.{List, [], _∷_, _++_}
 use Prim.Native.Nat.{ℕ}
 use Rattle.range.specs.declared.Range.{Range}
-use Rattle.range.specs.Arithmetic.{endsSum, sumOf, endsNeg, negOf, endsTimes, timesOf, endsProduct, productOf, endsInverse, inverseOf, endsHull, hullOf}
+use Rattle.range.specs.Arithmetic.{endsSum, endsNeg, endsTimes, endsProduct, endsInverse, endsHull}
+use Rattle.range.specs.Arithmetic.{sumOf, negOf, timesOf, productOf, inverseOf, hullOf}
 use Rattle.range.specs.Power.{endsPow, powOf, upsOf}
 use Rattle.range.specs.Sums.{endsProducts, productsOf, endsSquares, squaresOf, endsRoot, rootOf}
 
@@ -58,8 +59,9 @@ unlimited (sumOfSquares s g) = endsSquares s g
 unlimited (rootOfSquares s g h) = endsRoot s g h
 unlimited (choose c x y) = cond c (unlimited x) (unlimited y)
 
--- The ranges that its steps produce: refusal 12 speaks of their ends. Of a power "every U value used, at each step, counts as an end"; of a sum over
--- a set "only its total counts"; "β counts as an end and the two sums do not".
+-- The ranges that its steps produce: refusal 12 speaks of their ends. Of a power "every U value used, at each step, counts as an end"; of a
+-- sum over a set "only its total counts"; "β counts as an end and the two sums do not". A formula that stands twice in a row is listed twice,
+-- to no effect; of `choose`, the steps of the formula taken are listed alone.
 unfoldable pub produced : Formula → List Range
 produced (given r) = []
 produced (x ⊕ y) = produced x ++ (produced y ++ (unlimited (x ⊕ y) ∷ []))

@@ -1,9 +1,10 @@
--- What is promised of the limits of a class (the buyer's third demand): proved in proofs/Sound.antt.
+-- What is promised of the limits of a class: the buyer's third demand, proved in proofs/Sound.antt, and what 01 says of them apart from any
+-- point, proved in proofs/Shaped.antt.
 use mathlib.Core.Path.{_≡_}
 use mathlib.Core.Bool.{cond}
 use mathlib.Core.List.{List}
 use mathlib.Core.Option.{Option, none, some}
-use Prim.Native.Nat.{ℕ, _<_}
+use Prim.Native.Nat.{ℕ, _≤_, _<_}
 use lib.Dec.{T}
 use lib.IntN.{ℤ, pos}
 use lib.ListN.{getD, length}
@@ -13,12 +14,15 @@ use Rattle.exact.specs.Rat.{ℚ, fromℤ, _*ℚ_, _≤ℚ_, 0ℚ}
 use Rattle.exact.specs.Units.{units, In}
 use Rattle.exact.proofs.Rat.{ℚ-ring}
 use Rattle.range.specs.declared.Range.{Range}
+use Rattle.range.specs.Limit.{zeroRange}
 use Rattle.range.specs.Sums.{has, at}
 use Rattle.rules.specs.declared.Limits.{Limits}
 use Rattle.rules.specs.Rate.{rated, pairs, rateOf}
 use Rattle.rules.specs.Exact.{Point, coordinate, Jet, exactLines, premiumOf}
 
--- "it is inside the ranges if 10,000 times each coordinate lies between that factor's low and high, ends included"
+-- "it is inside the ranges if 10,000 times each coordinate lies between that factor's low and high, ends included": here the coordinate
+-- itself lies between low/10,000 and high/10,000 ("An end of u units is compared as u/10,000"), which is the same. Factors are counted from
+-- 0.
 pub record Inside (c : Codelist) (xs : List ℤ) (p : Point) : Type 0 where
   pub each : (a : ℕ) → a < c .factors → In (at (pairs xs) a .low) (at (pairs xs) a .high) (coordinate p a)
 
@@ -76,3 +80,14 @@ pub record Sound (c : Codelist) (l : Limits) (p : Point) : Type 0 where
 -- THE PROMISE: ranges that are rated are sound at every point inside.
 abbrev pub SoundRating : Type 0
 SoundRating = (c : Codelist) (xs : List ℤ) (l : Limits) → rateOf c xs ≡ rated l → (p : Point) → Inside c xs p → Sound c l p
+
+-- WHAT THE LIMITS ARE APART FROM ANY POINT
+pub record Shaped (c : Codelist) (l : Limits) : Type 0 where
+  -- "a pair beyond the last factor is 0, 0"; and so is one outside P
+  pub beyond-factors : (a : ℕ) → c .factors ≤ a → a < 8 → at (l .gradient) a ≡ zeroRange
+  pub outside-support : (a : ℕ) → a < 8 → ¬ (T (has (l .support) a)) → at (l .gradient) a ≡ zeroRange
+  -- "For an empty B, E is zero."
+  pub empty-nonlinear : l .nonlinear ≡ 0 → l .spectrum ≡ zeroRange
+
+abbrev pub ShapedRating : Type 0
+ShapedRating = (c : Codelist) (xs : List ℤ) (l : Limits) → rateOf c xs ≡ rated l → Shaped c l

@@ -1,5 +1,5 @@
--- Rating: refusals 8 to 12 in their order, and the result. 01, "Refusals that come from the state", "Rating: 10, 8, 9 (lowest factor), then codelist lines
--- in order", and "What the engine takes and gives".
+-- Rating: refusals 8 to 12 in their order, and the result. 01, "Refusals that come from the state", "Rating: 10, 8, 9 (lowest factor), then
+-- codelist lines in order, 11 before 12", and "What the engine takes and gives".
 use mathlib.Core.Bool.{cond}
 use mathlib.Core.List.{List, [], _∷_}
 use Prim.Native.Nat.{ℕ, suc, zero, _*_}
@@ -44,7 +44,8 @@ last [] = noLine
 last (l ∷ []) = l
 last (l ∷ m ∷ ls) = last (m ∷ ls)
 
--- "The full bend is E lifted to all factors", of which there are n.
+-- "The full bend is E lifted to all factors", of which there are n. This hull passes no limit where E does not (`full-within`), so it is not
+-- refused.
 unfoldable pub limitsOf : ℕ → Line → Limits
 limitsOf n l = record {
   value = l .value;
@@ -60,14 +61,21 @@ rated l = record { outcome = Rated; limits = l }
 
 -- "A refusal carries number and place, every other field is 0"
 unfoldable pub noLimits : Limits
-noLimits = record { value = zeroRange; gradient = eight (λ a. zeroRange); support = none; nonlinear = none; spectrum = zeroRange; full = zeroRange }
+noLimits = record {
+  value = zeroRange;
+  gradient = eight (λ a. zeroRange);
+  support = none;
+  nonlinear = none;
+  spectrum = zeroRange;
+  full = zeroRange;
+}
 
 abbrev pub refused : Refusal → Rating
 refused r = record { outcome = Refused r; limits = noLimits }
 
 -- ════ rating ════
 
--- two numbers a range
+-- two numbers a range, low and high
 abbrev pub pairs : List ℤ → List Range
 pairs [] = []
 pairs (l ∷ []) = []
@@ -77,7 +85,7 @@ abbrev pub finished : ℕ → Lines → Rating
 finished n (through ls) = rated (limitsOf n (last ls))
 finished n (stopped r) = refused r
 
--- the lowest factor, counted from a, whose ends are out of order or beyond the limit; 0 if there is none
+-- 9: the lowest factor, counted from a, whose ends are out of order or beyond the limit; 0 if there is none
 unfoldable pub firstBad : ℕ → List Range → ℕ
 firstBad a [] = 0
 firstBad a (r ∷ rs) = cond (isValid r) (firstBad (suc a) rs) a

@@ -1,4 +1,5 @@
--- 01, "Sets and bends": lift, join, Sq and Cross, and the table, row by row, as formulas over the lines that a row refers to.
+-- 01, "Sets and bends": lift, join, Sq and Cross, and the table, row by row, as formulas over the lines that a row refers to. "Special cases
+-- 4, 7 and 10 of Table 6 in 000 are not applied."
 use mathlib.Core.Bool.{cond}
 use mathlib.Core.List.{List, [], _∷_}
 use Prim.Native.Nat.{ℕ, _-_}
@@ -8,7 +9,8 @@ use Rattle.range.specs.declared.Range.{Range}
 use Rattle.range.specs.Limit.{fromTo, zeroRange, oneRange}
 use Rattle.range.specs.Sums.{at}
 use Rattle.rules.specs.declared.Line.{Line}
-use Rattle.rules.specs.Formula.{Formula, given, _⊕_, _⊗_, negated, times, power, inverse, hull, sumOfProducts, sumOfSquares, rootOfSquares, choose, sticky}
+use Rattle.rules.specs.Formula.{Formula, given, _⊕_, _⊗_, negated, times, power, inverse, hull, choose, sticky}
+use Rattle.rules.specs.Formula.{sumOfProducts, sumOfSquares, rootOfSquares}
 use Rattle.rules.specs.Sets.{none, single, _∪_, apart, isSingle, only}
 
 -- ════ spectra ════
@@ -24,11 +26,12 @@ extended e b c = choose (eqb b c) e (hull e zero)
 abbrev pub spectrumOfSum : Formula → ℕ → Formula → ℕ → Formula
 spectrumOfSum e b f c = choose (apart b c) (hull e f) (extended e b (b ∪ c) ⊕ extended f c (b ∪ c))
 
--- 01's Sq (Λs of the sources): "the second power if the number of factors in the set is 1; else from 0 to the sum of the largest squares".
+-- 01's Sq (Λs of the sources): "the second power if the number of factors in the set is 1; else from 0 to the sum of the largest squares,
+-- each divided by 10,000 and rounded up" (`endsSquares` of range's Sums).
 abbrev pub squareSpectrum : ℕ → List Range → Formula
 squareSpectrum s g = choose (isSingle s) (power (given (at g (only s))) 2) (sumOfSquares s g)
 
--- 01's Cross (Λt): "twice the product if the set has one factor; else the sum of the products plus [−β, β]".
+-- 01's Cross (Λt): "twice the product if the set has one factor; else the sum of the products plus [−β, β]" (β: `endsRoot` of range's Sums).
 abbrev pub crossSpectrum : ℕ → List Range → List Range → Formula
 crossSpectrum s g h =
     choose (isSingle s) (times 2 (given (at g (only s)) ⊗ given (at h (only s)))) (sumOfProducts s g h ⊕ rootOfSquares s g h)
@@ -87,7 +90,8 @@ addcRow x c = record {
   spectrum = spectrumOf x;
 }
 
--- mulc: "c·V_i | c·G_i | kept | c·E_i"
+-- mulc: "c·V_i | c·G_i | kept | c·E_i". c is in units, so these are products, rounded outward, and not the exact whole-number multiples that
+-- m, m−1 and 2 stand for below.
 unfoldable pub mulcRow : Line → ℤ → Row
 mulcRow x c = record {
   value = constant c ⊗ valueOf x;
@@ -101,43 +105,46 @@ mulcRow x c = record {
 unfoldable pub mulRow : Line → Line → Row
 mulRow x y =
     let s = x .support ∪ y .support in
+    let b = x .nonlinear ∪ y .nonlinear in
+    let join = spectrumOfSum (valueOf y ⊗ spectrumOf x) (x .nonlinear) (valueOf x ⊗ spectrumOf y) (y .nonlinear) in
     record {
       value = valueOf x ⊗ valueOf y;
       slope = λ a. valueOf x ⊗ slopeOf y a ⊕ valueOf y ⊗ slopeOf x a;
       support = s;
       nonlinear = s;
-      spectrum = crossSpectrum s (x .gradient) (y .gradient)
-          ⊕ extended (spectrumOfSum (valueOf y ⊗ spectrumOf x) (x .nonlinear) (valueOf x ⊗ spectrumOf y) (y .nonlinear)) (x .nonlinear ∪ y .nonlinear) s;
+      spectrum = crossSpectrum s (x .gradient) (y .gradient) ⊕ extended join b s;
     }
 
 -- pow: "V_i^m | m(V_i^(m−1)·G_i) | both P_i | m(V_i^(m−2)·((m−1)·Sq + V_i·lift E_i))"
 unfoldable pub powRow : Line → ℕ → Row
 powRow x m =
     let s = x .support in
+    let lift = extended (spectrumOf x) (x .nonlinear) s in
     record {
       value = power (valueOf x) m;
       slope = λ a. times m (power (valueOf x) (m - 1) ⊗ slopeOf x a);
       support = s;
       nonlinear = s;
-      spectrum = times m (power (valueOf x) (m - 2) ⊗ (times (m - 1) (squareSpectrum s (x .gradient)) ⊕ valueOf x ⊗ extended (spectrumOf x) (x .nonlinear) s));
+      spectrum = times m (power (valueOf x) (m - 2) ⊗ (times (m - 1) (squareSpectrum s (x .gradient)) ⊕ valueOf x ⊗ lift));
     }
 
--- inv: "inverse of V_i | −(V_k²·G_i) | both P_i | V_k²·(2(V_k·Sq) − lift E_i)", V_k the line's own V
+-- inv: "inverse of V_i | −(V_k²·G_i) | both P_i | V_k²·(2(V_k·Sq) − lift E_i)". "V_k is the line's own V, and V_k² its second power."
 unfoldable pub invRow : Line → Row
 invRow x =
     let s = x .support in
     let v = inverse (valueOf x) in
+    let lift = extended (spectrumOf x) (x .nonlinear) s in
     record {
       value = v;
       slope = λ a. negated (power v 2 ⊗ slopeOf x a);
       support = s;
       nonlinear = s;
-      spectrum = power v 2 ⊗ (times 2 (v ⊗ squareSpectrum s (x .gradient)) ⊕ negated (extended (spectrumOf x) (x .nonlinear) s));
+      spectrum = power v 2 ⊗ (times 2 (v ⊗ squareSpectrum s (x .gradient)) ⊕ negated lift);
     }
 
 -- ════ lines ════
 
--- "The slopes are eight pairs"
+-- "The slopes are eight pairs, and a pair beyond the last factor is 0, 0": so the rows come out there (`Shaped` of Promises).
 abbrev pub eight : {A : Type 0} → (ℕ → A) → List A
 eight g = g 0 ∷ g 1 ∷ g 2 ∷ g 3 ∷ g 4 ∷ g 5 ∷ g 6 ∷ g 7 ∷ []
 
