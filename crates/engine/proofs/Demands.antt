@@ -25,6 +25,8 @@ use Rattle.rules.specs.Rate as Rate
 use Rattle.rules.specs.Rate.{noLimits, rateOf, rateRanges, finished, firstBad}
 use Rattle.rules.specs.Run.{Lines, through, stopped, linesOf}
 use Rattle.rules.proofs.Sound.{sound}
+use Rattle.rules.proofs.Shaped.{shaped}
+use Rattle.rules.proofs.Refused as Rules
 use Rattle.engine.specs.declared.Engine.{Engine}
 use Rattle.engine.specs.declared.Refusal as refusal
 use Rattle.engine.specs.declared.Refusal.{Refusal}
@@ -143,6 +145,23 @@ module _ (x : Rating) where
   rated-with (inl p) h = p .1 ∙ ap (λ (y : Rating). Rate.rated (y .limits)) (sym (p .1))
   rated-with (inr p) h = not-both (sym h ∙ ap (λ (y : Rating). outcomeOf (y .outcome)) (p .1))
 
+-- a refusal of the engine is that of rating
+module _ (e : Engine) (xs : List ℤ) (r : rules.Refusal) where
+  same-refusal : ratedOf e xs .outcome ≡ Refused (refusal.the-variants.Rate r) → rateOf (e .codelist) xs ≡ Rate.refused r
+  unfolding ratedOf
+  same-refusal h = go (shape (e .codelist) xs)
+    where
+      go : Shape (rateOf (e .codelist) xs) → rateOf (e .codelist) xs ≡ Rate.refused r
+      go (inl p) = not-both (sym (ap (λ (y : Rating). outcomeOf (y .outcome)) (p .1)) ∙ h)
+      go (inr p) =
+          let o : outcomeOf (rateOf (e .codelist) xs .outcome) ≡ Refused (refusal.the-variants.Rate (p .0)) = ap (λ (y : Rating). outcomeOf (y .outcome)) (p .1) in
+          let q : p .0 ≡ r = cc in
+          p .1 ∙ ap Rate.refused q
+
+  refused-back : rateOf (e .codelist) xs ≡ Rate.refused r → ratedOf e xs .outcome ≡ Refused (refusal.the-variants.Rate r)
+  unfolding ratedOf
+  refused-back h = ap (λ (y : Rating). outcomeOf (y .outcome)) h
+
 pub demands : Demands
 unfolding loadedOf ratedOf emptyEngine Load.empty rateOf wellFormed
 demands = record {
@@ -157,6 +176,10 @@ demands = record {
   accepted-written = λ e s. (λ h. (loadedOf e s .engine .codelist, written e s h), λ w. back e s (w .0) (w .1));
   loaded-written = λ e s h. written e s h;
   refused-listed = λ e s r. (λ h. listed e s r h, λ w. unlisted e s r w);
+  rate-refused-listed = λ e xs r.
+      let i = Rules.refused-exactly .where-listed (e .codelist) xs r in
+      (λ h. i .0 (same-refusal e xs r h), λ w. refused-back e xs r (i .1 w));
   empty-refused = λ xs. refl;
+  shaped = λ e xs h. shaped (e .codelist) xs (ratedOf e xs .limits) (rated-with (rateOf (e .codelist) xs) (shape (e .codelist) xs) h);
   sound = λ e xs h p i. sound (e .codelist) xs (ratedOf e xs .limits) (rated-with (rateOf (e .codelist) xs) (shape (e .codelist) xs) h) p i;
 }

@@ -6,6 +6,7 @@ use mathlib.Core.Logic.{_↔_, _⊎_}
 use Prim.Native.Nat.{ℕ, _≤_}
 use lib.IntN.{ℤ}
 use Rattle.codelist.specs.declared.Codelist.{Codelist}
+use Rattle.codelist.specs.declared.Refusal as codelist
 use Rattle.codelist.specs.Codelist.{WellFormed}
 use Rattle.codelist.specs.Refused.{RefusedFor}
 use Rattle.codelist.specs.Write.{textOf}
@@ -13,7 +14,9 @@ use Rattle.rules.specs.declared.Limits.{Limits}
 use Rattle.rules.specs.declared.Refusal.the-variants.{NoCodelist}
 use Rattle.rules.specs.Rate.{noLimits}
 use Rattle.rules.specs.Exact.{Point}
-use Rattle.rules.specs.Promises.{Inside, Sound}
+use Rattle.rules.specs.declared.Refusal as rules
+use Rattle.rules.specs.Refused as Rules
+use Rattle.rules.specs.Promises.{Inside, Sound, Shaped}
 use Rattle.engine.specs.declared.Engine.{Engine}
 use Rattle.engine.specs.declared.Refusal as refusal
 use Rattle.engine.specs.declared.Refusal.{Refusal}
@@ -37,10 +40,15 @@ pub record Demands : Type 0 where
   pub loaded-written : (e : Engine) (s : List ℕ) → loadedOf e s .outcome ≡ Accepted
       → WellFormed (loadedOf e s .engine .codelist) × (s ≡ textOf (loadedOf e s .engine .codelist))
   -- each refusal of loading says of the bytes what 01's table says
-  pub refused-listed : (e : Engine) (s : List ℕ) (r : Rattle.codelist.specs.declared.Refusal.Refusal)
+  pub refused-listed : (e : Engine) (s : List ℕ) (r : codelist.Refusal)
       → (loadedOf e s .outcome ≡ Refused (refusal.the-variants.Load r)) ↔ RefusedFor s r
+  -- and so does each refusal of rating of the codelist and the numbers
+  pub rate-refused-listed : (e : Engine) (xs : List ℤ) (r : rules.Refusal)
+      → (ratedOf e xs .outcome ≡ Refused (refusal.the-variants.Rate r)) ↔ Rules.RefusedFor (e .codelist) xs r
   -- an engine that was started and not loaded is refused with 10
   pub empty-refused : (xs : List ℤ) → ratedOf emptyEngine xs .outcome ≡ Refused (refusal.the-variants.Rate NoCodelist)
+  -- "a pair beyond the last factor is 0, 0", and "For an empty B, E is zero"
+  pub shaped : (e : Engine) (xs : List ℤ) → ratedOf e xs .outcome ≡ Accepted → Shaped (e .codelist) (ratedOf e xs .limits)
   -- 3. "Whatever accepted sheet and ranges, whatever point with fractions as coordinates inside them, whatever list v of whole numbers"
   pub sound : (e : Engine) (xs : List ℤ) → ratedOf e xs .outcome ≡ Accepted → (p : Point) → Inside (e .codelist) xs p
       → Sound (e .codelist) (ratedOf e xs .limits) p
