@@ -50,7 +50,7 @@ numeral-value w f = go (w .negative) (w .magnitude) (f .some)
     go true zero g = absurd (let x : 1 ≤ 0 = g refl in omega arith)
     go true (suc m) g = refl
 
-value-numeral : (z : ℤ) → valueOf (numeralOf z) ≡ z
+pub value-numeral : (z : ℤ) → valueOf (numeralOf z) ≡ z
 unfolding numeralOf valueOf
 value-numeral (pos n) = refl
 value-numeral (negsuc n) = refl
@@ -72,7 +72,7 @@ abs-numeral (negsuc n) = refl
 pub plain-numeral : (n : ℕ) → n ≤ 255 → IsNumeral (plain n)
 plain-numeral n h = record { few = omega arith; some = λ a. absurd (false≢true a) }
 
-constant-numeral : (z : ℤ) → natAbs z ≤ limit → IsNumeral (numeralOf z)
+pub constant-numeral : (z : ℤ) → natAbs z ≤ limit → IsNumeral (numeralOf z)
 unfolding numeralOf
 constant-numeral (pos n) h = record { few = omega arith; some = λ a. absurd (false≢true a) }
 constant-numeral (negsuc n) h = record { few = omega arith; some = λ _. omega arith }

@@ -110,15 +110,15 @@ keyword-complete word.Pow s = refl
 keyword-complete word.Inv s = refl
 
 -- Two numerals after a word
-record PairAt (s : List ℕ) (i x : Numeral) (t : List ℕ) : Type 0 where
-  left : IsNumeral i
-  right : IsNumeral x
-  text : (w : List ℕ) → w ++ s ≡ two w i x ++ t
+pub record PairAt (s : List ℕ) (i x : Numeral) (t : List ℕ) : Type 0 where
+  pub left : IsNumeral i
+  pub right : IsNumeral x
+  pub text : (w : List ℕ) → w ++ s ≡ two w i x ++ t
 
 abbrev tuple : Numeral → Numeral → Numeral × Numeral
 tuple i x = (i, x)
 
-pair-sound : (s : List ℕ) (p : Numeral × Numeral) (t : List ℕ) → pair s ≡ good p t → PairAt s (p .0) (p .1) t
+pub pair-sound : (s : List ℕ) (p : Numeral × Numeral) (t : List ℕ) → pair s ≡ good p t → PairAt s (p .0) (p .1) t
 unfolding pair
 pair-sound s p t e = first (next-inv (field 9 s) (λ i u. next (field 10 u) (λ x v. good (tuple i x) v)) p t e)
   where

@@ -137,9 +137,9 @@ pub struct Loaded {
 }
 
 // A numeral as it is written: whether it has a minus sign, and the number that its digits write.
-struct Numeral {
-    negative: bool,
-    magnitude: u64,
+pub struct Numeral {
+    pub negative: bool,
+    pub magnitude: u64,
 }
 
 // An operation line as it is written.
@@ -173,7 +173,7 @@ enum NumeralRead {
     Bad,
 }
 
-enum PairRead {
+pub enum PairRead {
     Good(Numeral, Numeral, usize),
     Bad,
 }
@@ -346,7 +346,7 @@ fn keyword_at(s: &[u8], at: usize) -> WordRead
 }
 
 // Two numerals, parted by a tab, and the line's end.
-fn pair_at(s: &[u8], at: usize) -> PairRead
+pub fn pair_at(s: &[u8], at: usize) -> PairRead
     ensures { λ r. ⌜ ofPair (now (s .entry)) r ≡ pair (drop at (now (s .entry))) ⌝ }
 {
     match field_at(s, at, TAB) {

@@ -1,0 +1,411 @@
+/* The rules of paper 01 in plain C, unverified and written for speed: what the proved engine is timed against.
+   reference < INPUT prints what `rate` prints; reference N < INPUT loads once, rates N times and prints the last result.
+
+   Ends of ranges are within 2,000,000,000 units, so a product of two fits 64 bits; only the product under Cross's root needs more.
+   The two sets of a line do not depend on the ranges: loading works them out, and slopes outside depends-on sets stay 0. */
+#include <math.h>
+#include <stdint.h>
+#include <stdio.h>
+#include <stdlib.h>
+#include <string.h>
+
+#define LIMIT 2000000000LL
+#define UNIT 10000LL
+#define MOST_FACTORS 8
+#define MOST_LINES 64
+#define MOST_SHEET 4096
+#define MOST_INPUT 8192
+
+typedef struct { int64_t low, high; } Range;
+typedef struct { Range value, bend, slopes[MOST_FACTORS]; } Line;
+typedef enum { ADD, MUL, ADDC, MULC, POW, INV } Name;
+typedef struct { Name name; int i, j; int64_t number; } Operation; /* number: constant or exponent; lines counted from 0 */
+typedef struct {
+    int factors, lines;
+    Operation operations[MOST_LINES]; /* by line; those of the factors are not used */
+    uint8_t depends[MOST_LINES], bent[MOST_LINES];
+} Sheet;
+typedef struct { int number, place; } Refusal;
+
+/* ---- range arithmetic; a step that passes the limit leaves its line with 12 */
+
+static inline int passes(Range r) { return r.low < -LIMIT || r.high > LIMIT; }
+#define STEP(name, formula) Range name = (formula); if (passes(name)) return 12
+
+static inline int64_t down(int64_t x) { return x / UNIT - (x % UNIT < 0); }
+static inline int64_t up(int64_t x) { return x / UNIT + (x % UNIT > 0); }
+static inline int64_t lesser(int64_t x, int64_t y) { return x < y ? x : y; }
+static inline int64_t greater(int64_t x, int64_t y) { return x > y ? x : y; }
+
+static inline Range sum(Range a, Range b) { return (Range){a.low + b.low, a.high + b.high}; }
+static inline Range negation(Range a) { return (Range){-a.high, -a.low}; }
+static inline Range multiple(int64_t k, Range a) { return (Range){k * a.low, k * a.high}; }
+static inline Range hull(Range a, Range b) { return (Range){lesser(a.low, b.low), greater(a.high, b.high)}; }
+
+/* by signs, so that two of the four end products do where one range has one sign */
+static inline Range product(Range a, Range b) {
+    int64_t low, high;
+    if (a.low >= 0) {
+        low = (b.low >= 0 ? a.low : a.high) * b.low;
+        high = (b.high >= 0 ? a.high : a.low) * b.high;
+    } else if (a.high <= 0) {
+        low = (b.high >= 0 ? a.low : a.high) * b.high;
+        high = (b.low >= 0 ? a.high : a.low) * b.low;
+    } else if (b.low >= 0) {
+        low = a.low * b.high;
+        high = a.high * b.high;
+    } else if (b.high <= 0) {
+        low = a.high * b.low;
+        high = a.low * b.low;
+    } else {
+        low = lesser(a.low * b.high, a.high * b.low);
+        high = greater(a.low * b.low, a.high * b.high);
+    }
+    return (Range){down(low), up(high)};
+}
+
+static inline Range constant_product(int64_t c, Range a) {
+    return c >= 0 ? (Range){down(c * a.low), up(c * a.high)} : (Range){down(c * a.high), up(c * a.low)};
+}
+
+/* of a range without 0; an end is at most 100,000,000 */
+static inline Range inverse(Range a) {
+    int64_t square = UNIT * UNIT, low = square / a.high, high = square / a.low;
+    if (a.low > 0) high += high * a.low != square;
+    else low -= low * a.high != square;
+    return (Range){low, high};
+}
+
+/* A power past the limit is given back at once, as the next step could pass 64 bits; the upper end then passes the limit, too. */
+static inline int64_t power_down(int64_t x, int e) {
+    int64_t power = x;
+    while (--e && power <= LIMIT) power = power * x / UNIT;
+    return power;
+}
+
+static inline int64_t power_up(int64_t x, int e) {
+    int64_t power = x;
+    while (--e && power <= LIMIT) power = (power * x + (UNIT - 1)) / UNIT;
+    return power;
+}
+
+static inline Range power(Range a, int e) {
+    if (e == 0) return (Range){UNIT, UNIT};
+    if (a.low >= 0) return (Range){power_down(a.low, e), power_up(a.high, e)};
+    int even = e % 2 == 0;
+    if (a.high <= 0) {
+        int64_t least = power_down(-a.high, e), most = power_up(-a.low, e);
+        return even ? (Range){least, most} : (Range){-most, -least};
+    }
+    if (even) return (Range){0, power_up(greater(-a.low, a.high), e)};
+    return (Range){-power_up(-a.low, e), power_up(a.high, e)};
+}
+
+/* ---- sets and bends */
+
+#define EACH(a, set) for (unsigned rest_ = (set), a; rest_ && (a = (unsigned)__builtin_ctz(rest_), 1); rest_ &= rest_ - 1)
+static inline int single(unsigned set) { return (set & (set - 1)) == 0; } /* of a set that is not empty */
+
+static inline Range lift(Range bend, unsigned bent, unsigned larger) {
+    return bent == larger ? bend : hull(bend, (Range){0, 0});
+}
+
+static inline Range join(Range a, unsigned a_bent, Range b, unsigned b_bent) {
+    if (a_bent && b_bent && !(a_bent & b_bent)) return hull(a, b);
+    unsigned both = a_bent | b_bent;
+    return sum(lift(a, a_bent, both), lift(b, b_bent, both));
+}
+
+static inline int64_t squares(const Range *slopes, unsigned over) {
+    int64_t total = 0;
+    EACH(a, over) {
+        int64_t most = greater(-slopes[a].low, slopes[a].high);
+        total += up(most * most);
+    }
+    return total;
+}
+
+static inline Range square_sum(const Range *slopes, unsigned over) {
+    if (single(over)) return power(slopes[__builtin_ctz(over)], 2);
+    return (Range){0, squares(slopes, over)};
+}
+
+/* the square root rounded up, of at most LIMIT squared */
+static inline int64_t root_up(uint64_t x) {
+    uint64_t root = (uint64_t)sqrt((double)x);
+    while (root * root > x) root--;
+    while (root * root < x) root++;
+    return (int64_t)root;
+}
+
+/* over the union of the two depends-on sets; products are 0 outside the shared part, squares outside their own */
+static inline int cross(Range *out, const Range *g, unsigned g_depends, const Range *h, unsigned h_depends) {
+    unsigned over = g_depends | h_depends;
+    if (single(over)) {
+        unsigned a = (unsigned)__builtin_ctz(over);
+        STEP(once, product(g[a], h[a]));
+        *out = multiple(2, once);
+        return passes(*out) ? 12 : 0;
+    }
+    unsigned __int128 both = (unsigned __int128)squares(g, g_depends) * (unsigned __int128)squares(h, h_depends);
+    if (both > (unsigned __int128)LIMIT * LIMIT) return 12;
+    int64_t beta = root_up((uint64_t)both);
+    Range total = {-beta, beta};
+    EACH(a, g_depends & h_depends) total = sum(total, product(g[a], h[a]));
+    *out = total;
+    return passes(total) ? 12 : 0;
+}
+
+/* ---- the lines: 0, or 11 or 12 */
+
+static inline int add_line(Line *z, const Line *x, unsigned px, unsigned bx, const Line *y, unsigned py, unsigned by) {
+    STEP(value, sum(x->value, y->value));
+    z->value = value;
+    EACH(a, px | py) {
+        STEP(slope, sum(x->slopes[a], y->slopes[a]));
+        z->slopes[a] = slope;
+    }
+    STEP(bend, join(x->bend, bx, y->bend, by));
+    z->bend = bend;
+    return 0;
+}
+
+static inline int addc_line(Line *z, const Line *x, int64_t c) {
+    *z = *x;
+    z->value = sum(x->value, (Range){c, c});
+    return passes(z->value) ? 12 : 0;
+}
+
+static inline int mulc_line(Line *z, const Line *x, unsigned px, int64_t c) {
+    STEP(value, constant_product(c, x->value));
+    z->value = value;
+    EACH(a, px) {
+        STEP(slope, constant_product(c, x->slopes[a]));
+        z->slopes[a] = slope;
+    }
+    STEP(bend, constant_product(c, x->bend));
+    z->bend = bend;
+    return 0;
+}
+
+static inline int mul_line(Line *z, const Line *x, unsigned px, unsigned bx, const Line *y, unsigned py, unsigned by) {
+    STEP(value, product(x->value, y->value));
+    z->value = value;
+    EACH(a, px & ~py) {
+        STEP(slope, product(y->value, x->slopes[a]));
+        z->slopes[a] = slope;
+    }
+    EACH(a, py & ~px) {
+        STEP(slope, product(x->value, y->slopes[a]));
+        z->slopes[a] = slope;
+    }
+    EACH(a, px & py) {
+        STEP(left, product(x->value, y->slopes[a]));
+        STEP(right, product(y->value, x->slopes[a]));
+        STEP(slope, sum(left, right));
+        z->slopes[a] = slope;
+    }
+    Range crossed;
+    if (cross(&crossed, x->slopes, px, y->slopes, py)) return 12;
+    Range joined = {0, 0};
+    if (bx | by) {
+        STEP(left, product(y->value, x->bend));
+        STEP(right, product(x->value, y->bend));
+        joined = join(left, bx, right, by);
+        if (passes(joined)) return 12;
+        joined = lift(joined, bx | by, px | py);
+    }
+    STEP(bend, sum(crossed, joined));
+    z->bend = bend;
+    return 0;
+}
+
+static inline int pow_line(Line *z, const Line *x, unsigned px, unsigned bx, int m) {
+    STEP(value, power(x->value, m));
+    STEP(outer, power(x->value, m - 1));
+    STEP(second, power(x->value, m - 2));
+    z->value = value;
+    EACH(a, px) {
+        STEP(once, product(outer, x->slopes[a]));
+        STEP(slope, multiple(m, once));
+        z->slopes[a] = slope;
+    }
+    STEP(square, square_sum(x->slopes, px));
+    STEP(squared, multiple(m - 1, square));
+    STEP(curved, product(x->value, lift(x->bend, bx, px)));
+    STEP(inner, sum(squared, curved));
+    STEP(once, product(second, inner));
+    STEP(bend, multiple(m, once));
+    z->bend = bend;
+    return 0;
+}
+
+static inline int inv_line(Line *z, const Line *x, unsigned px, unsigned bx) {
+    if (x->value.low <= 0 && 0 <= x->value.high) return 11;
+    Range value = inverse(x->value);
+    STEP(square, power(value, 2));
+    z->value = value;
+    EACH(a, px) {
+        STEP(slope, negation(product(square, x->slopes[a])));
+        z->slopes[a] = slope;
+    }
+    STEP(squared, square_sum(x->slopes, px));
+    STEP(once, product(value, squared));
+    STEP(twice, multiple(2, once));
+    STEP(inner, sum(twice, negation(lift(x->bend, bx, px))));
+    STEP(bend, product(square, inner));
+    z->bend = bend;
+    return 0;
+}
+
+/* The lines after the factors' ones, which the caller has filled. Slopes outside a depends-on set are not written. */
+static __attribute__((noinline)) Refusal rate(const Sheet *s, Line *lines) {
+    const uint8_t *p = s->depends, *b = s->bent;
+    for (int k = s->factors; k < s->lines; k++) {
+        const Operation *o = &s->operations[k];
+        int i = o->i, j = o->j, refused = 0;
+        Line *z = &lines[k];
+        switch (o->name) {
+        case ADD: refused = add_line(z, &lines[i], p[i], b[i], &lines[j], p[j], b[j]); break;
+        case MUL: refused = mul_line(z, &lines[i], p[i], b[i], &lines[j], p[j], b[j]); break;
+        case ADDC: refused = addc_line(z, &lines[i], o->number); break;
+        case MULC: refused = mulc_line(z, &lines[i], p[i], o->number); break;
+        case POW: refused = pow_line(z, &lines[i], p[i], b[i], (int)o->number); break;
+        case INV: refused = inv_line(z, &lines[i], p[i], b[i]); break;
+        }
+        if (refused) return (Refusal){refused, k + 1};
+    }
+    return (Refusal){0, 0};
+}
+
+/* ---- reading: each reader moves the text on and says whether it found its form */
+
+typedef struct { const char *at, *end; } Text;
+
+static int word(Text *t, const char *w) {
+    size_t n = strlen(w);
+    if ((size_t)(t->end - t->at) < n || memcmp(t->at, w, n)) return 0;
+    t->at += n;
+    return 1;
+}
+
+static int numeral(Text *t, int64_t *out) {
+    int minus = word(t, "-"), digits = 0;
+    int64_t x = 0;
+    const char *first = t->at;
+    for (; t->at < t->end && *t->at >= '0' && *t->at <= '9'; t->at++, digits++)
+        if (digits < 10) x = 10 * x + (*t->at - '0');
+    if (digits < 1 || digits > 10 || (*first == '0' && (digits > 1 || minus))) return 0;
+    *out = minus ? -x : x;
+    return 1;
+}
+
+static int field(Text *t, int64_t *out) { return word(t, "\t") && numeral(t, out); }
+
+static Refusal load(Sheet *s, Text t) {
+    static const char *const names[] = {"add\t", "mul\t", "addc\t", "mulc\t", "pow\t", "inv\t"};
+    if (t.end - t.at > MOST_SHEET) return (Refusal){1, 0};
+    int64_t n;
+    if (!word(&t, "factors") || !field(&t, &n) || !word(&t, "\n")) return (Refusal){2, 1};
+    if (n < 1 || n > MOST_FACTORS) return (Refusal){3, 1};
+    s->factors = (int)n;
+    memset(s->depends, 0, sizeof s->depends);
+    memset(s->bent, 0, sizeof s->bent);
+    for (int a = 0; a < s->factors; a++) s->depends[a] = (uint8_t)(1u << a);
+    int k = s->factors;
+    for (int place = 2; t.at < t.end; place++, k++) {
+        int64_t i = 0, j = 0;
+        int name = ADD;
+        while (name <= INV && !word(&t, names[name])) name++;
+        if (name > INV || !numeral(&t, &i) || (name != INV && !field(&t, &j)) || !word(&t, "\n")) return (Refusal){2, place};
+        if (k >= MOST_LINES) return (Refusal){4, place};
+        int two = name == ADD || name == MUL;
+        if (i < 1 || i > k || (two && (j < 1 || j > k))) return (Refusal){5, place};
+        if (name == POW && (j < 2 || j > 8)) return (Refusal){6, place};
+        if ((name == ADDC || name == MULC) && (j < -LIMIT || j > LIMIT)) return (Refusal){7, place};
+        i--;
+        s->operations[k] = (Operation){(Name)name, (int)i, two ? (int)j - 1 : 0, j};
+        s->depends[k] = s->depends[i];
+        s->bent[k] = s->bent[i];
+        if (two) s->depends[k] |= s->depends[j - 1];
+        if (name == ADD) s->bent[k] |= s->bent[j - 1];
+        if (name == MUL || name == POW || name == INV) s->bent[k] = s->depends[k];
+    }
+    if (k == s->factors) return (Refusal){4, 1};
+    s->lines = k;
+    return (Refusal){0, 0};
+}
+
+static Refusal box(const Sheet *s, Text t, Line *lines) {
+    int64_t low[MOST_FACTORS], high[MOST_FACTORS];
+    for (int a = 0; a < s->factors; a++)
+        if (!numeral(&t, &low[a]) || !field(&t, &high[a]) || !word(&t, "\n")) return (Refusal){8, 0};
+    if (t.at != t.end) return (Refusal){8, 0};
+    for (int a = 0; a < s->factors; a++) {
+        if (low[a] > high[a] || low[a] < -LIMIT || high[a] > LIMIT) return (Refusal){9, a + 1};
+        lines[a].value = (Range){low[a], high[a]};
+        lines[a].slopes[a] = (Range){UNIT, UNIT};
+    }
+    return (Refusal){0, 0};
+}
+
+/* "The sheet ends before the first line `box` that has its byte 10; without one all is sheet." */
+static void part(Text all, Text *sheet, Text *ranges) {
+    *sheet = all;
+    *ranges = (Text){NULL, NULL};
+    for (const char *at = all.at; at; at = memchr(at, '\n', (size_t)(all.end - at)), at = at ? at + 1 : at) {
+        Text line = {at, all.end};
+        if (!word(&line, "box\n")) continue;
+        sheet->end = at;
+        *ranges = line;
+        return;
+    }
+}
+
+/* ---- printing */
+
+static void print_range(const char *name, Range r) { printf("%s\t%lld\t%lld\n", name, (long long)r.low, (long long)r.high); }
+
+static void print_set(const char *name, unsigned set) {
+    printf("%s", name);
+    EACH(a, set) printf("\t%u", a + 1);
+    printf("\n");
+}
+
+static void print_result(const Sheet *s, const Line *line) {
+    unsigned bent = s->bent[s->lines - 1];
+    print_range("value", line->value);
+    for (int a = 0; a < s->factors; a++)
+        printf("slope\t%d\t%lld\t%lld\n", a + 1, (long long)line->slopes[a].low, (long long)line->slopes[a].high);
+    print_set("depends", s->depends[s->lines - 1]);
+    print_set("bent", bent);
+    print_range("bend", line->bend);
+    print_range("full", lift(line->bend, bent, (1u << s->factors) - 1));
+}
+
+static Refusal run(Text input, long times, Sheet *s, Line *lines) {
+    if (input.end - input.at > MOST_INPUT) return (Refusal){1, 0};
+    Text sheet, ranges;
+    part(input, &sheet, &ranges);
+    Refusal refusal = load(s, sheet);
+    if (refusal.number) return refusal;
+    if (!ranges.at) return (Refusal){8, 0};
+    refusal = box(s, ranges, lines);
+    while (!refusal.number && times-- > 0) {
+        refusal = rate(s, lines);
+        __asm__ volatile("" : : "r"(lines) : "memory"); /* each rating is done */
+    }
+    return refusal;
+}
+
+int main(int count, char **arguments) {
+    static char input[MOST_INPUT + 1];
+    static Sheet sheet;
+    static Line lines[MOST_LINES];
+    size_t n = fread(input, 1, sizeof input, stdin);
+    long times = count > 1 ? atol(arguments[1]) : 1;
+    Refusal refusal = run((Text){input, input + n}, times, &sheet, lines);
+    if (refusal.number) printf("refused\t%d\t%d\n", refusal.number, refusal.place);
+    else print_result(&sheet, &lines[sheet.lines - 1]);
+    return 0;
+}

@@ -1,0 +1,179 @@
+"""Wrong rules, each in the place of a right one: the comparison has to tell them all from the right ones.
+
+The first five are the errors that 01 names at its end, then come the results "From the buyer" wants turned down, then other
+readings of sentences that decide a result.
+"""
+from reference.outcome import Refused, refuse
+from reference.ranges import LIMIT, UNIT, ZERO, PastLimit, Range
+from reference.rating import Rules
+
+
+class TowardZero(Rules):
+    """Dividing toward zero, so that a low end of -0.5 units becomes 0."""
+    def down(self, dividend, divisor):
+        quotient = abs(dividend) // abs(divisor)
+        return quotient if dividend * divisor >= 0 else -quotient
+
+
+class SquareByEnds(Rules):
+    """Squaring -1..2 by its ends."""
+    def power(self, a, e, step):
+        if a.low < 0 < a.high and e % 2 == 0 and e > 0:
+            return Range(*sorted(self.power_up(abs(x), e, step) for x in a))
+        return super().power(a, e, step)
+
+
+class HullOfOverlap(Rules):
+    """Hulling bends whose sets overlap."""
+    def join(self, a, a_bent, b, b_bent, step):
+        return self.hull(a, b) if a_bent & b_bent else super().join(a, a_bent, b, b_bent, step)
+
+
+class BendForFull(Rules):
+    """Printing the bend where the full bend belongs."""
+    def result(self, line):
+        return super().result(line)._replace(full=line.bend)
+
+
+class RootDown(Rules):
+    """Rounding the root down."""
+    def root_up(self, x):
+        root = super().root_up(x)
+        return root if root * root == x else root - 1
+
+
+class WholeLimit(Rules):
+    """Bounds of the whole limit and both sets full for every class."""
+    def result(self, line):
+        span, full = Range(-LIMIT, LIMIT), frozenset(range(self.factors))
+        return super().result(line)._replace(value=span, slopes=(span,) * self.factors, depends=full, bent=full, bend=span, full=span)
+
+
+class FirstOperationCopied(Rules):
+    """Slopes and bend worked out for the first operation only and copied on."""
+    def line(self, operation, lines):
+        line = super().line(operation, lines)
+        first = lines[self.factors] if len(lines) > self.factors else line
+        return line._replace(slopes=first.slopes, bend=first.bend)
+
+
+class EarlyRefusal(Rules):
+    """Refusal 12 before any end has passed the limit."""
+    def kept(self, r, step):
+        if r.low == -LIMIT or r.high == LIMIT:
+            raise PastLimit(step)
+        return super().kept(r, step)
+
+
+class InventedPlace(Rules):
+    """A refusal of rating placed at the text line and not at the codelist line."""
+    def line(self, operation, lines):
+        try:
+            return super().line(operation, lines)
+        except Refused as refused:
+            refuse(refused.args[0].number, len(lines) - self.factors + 2)
+
+
+class ExactConstant(Rules):
+    """The constant of `mulc` taken as exact, one end rounded like the other."""
+    def mulc(self, x, c):
+        def scaled(r):
+            return self.kept(Range(*sorted(self.down(c * end, UNIT) for end in r)), "mulc.V")
+        return x._replace(value=scaled(x.value), slopes=tuple(map(scaled, x.slopes)), bend=scaled(x.bend))
+
+
+class LinesOnly(Rules):
+    """Only V, G and E of a line count as ends, not the ranges inside their formulas."""
+    def kept(self, r, step):
+        return r
+
+    def line(self, operation, lines):
+        line = super().line(operation, lines)
+        for r in (line.value, *line.slopes, line.bend):
+            if r.low < -LIMIT or r.high > LIMIT:
+                refuse(12, len(lines) + 1)
+        return line
+
+
+class ProductsRoundedOnce(Rules):
+    """The sum of the products in Cross rounded once, not each product."""
+    def products(self, g, h, over):
+        ends = [[x * y for x in g[a] for y in h[a]] for a in over]
+        return Range(self.down(sum(map(min, ends)), UNIT), self.up(sum(map(max, ends)), UNIT))
+
+
+class SquaresRoundedOnce(Rules):
+    """The sum of the squares rounded once, not each square (a later request)."""
+    def squares(self, slopes, over):
+        return self.up(sum(max(slopes[a].low ** 2, slopes[a].high ** 2) for a in over), UNIT)
+
+
+class SquaresInCrossCount(Rules):
+    """The two sums inside Cross taken for ends."""
+    def cross(self, g, h, over):
+        for slopes in (g, h):
+            if len(over) > 1:
+                self.kept(Range(0, self.squares(slopes, over)), "mul.Cross.squares")
+        return super().cross(g, h, over)
+
+
+class SquareForProduct(Rules):
+    """`mul` of a line with itself taken for its second power."""
+    def mul(self, x, y):
+        line = super().mul(x, y)
+        return line._replace(value=self.power(x.value, 2, "mul.V")) if x is y else line
+
+
+class ProductForSquare(Rules):
+    """Sq over one factor taken for the product of the slope with itself."""
+    def sq(self, slopes, over, step):
+        if len(over) == 1:
+            (a,) = over
+            return self.product(slopes[a], slopes[a], step)
+        return super().sq(slopes, over, step)
+
+
+class NoLift(Rules):
+    """A bend kept as it is when its set grows."""
+    def lift(self, bend, bent, larger):
+        return bend
+
+
+class ZeroInHull(Rules):
+    """A bend over the same set hulled with zero."""
+    def lift(self, bend, bent, larger):
+        return self.hull(bend, ZERO)
+
+
+class BentSetKept(Rules):
+    """A power's bent set kept from the line it raises, where that has one."""
+    def pow(self, x, m):
+        return super().pow(x, m)._replace(bent=x.bent or x.depends)
+
+
+class ZerothPowerOne(Rules):
+    """Power 0 taken for one unit and not for the range one."""
+    def power(self, a, e, step):
+        return Range(1, 1) if e == 0 else super().power(a, e, step)
+
+
+ERRORS = [
+    TowardZero, SquareByEnds, HullOfOverlap, BendForFull, RootDown,
+    WholeLimit, FirstOperationCopied, EarlyRefusal, InventedPlace,
+    ExactConstant, LinesOnly, ProductsRoundedOnce, SquaresRoundedOnce, SquaresInCrossCount, SquareForProduct, ProductForSquare,
+    NoLift, ZeroInHull, BentSetKept, ZerothPowerOne,
+]
+
+# The steps that can be the only one to pass the limit. The others never are: powers of V pass with V^m or at its start, and what is
+# then doubled or taken m times passes with its multiple; the root and the sum of the products pass with their sum.
+STEPS = [
+    "add.V", "add.G", "add.join", "addc.V", "mulc.V", "mulc.G", "mulc.E",
+    "mul.V", "mul.ViGj", "mul.VjGi", "mul.G", "mul.VjEi", "mul.ViEj", "mul.join", "mul.Cross.one", "mul.Cross.sum", "mul.E",
+    "pow.V", "pow.G", "pow.(m-1)Sq", "pow.VE", "pow.inner", "pow.E",
+    "inv.V^2", "inv.G", "inv.Sq.one", "inv.Sq.sum", "inv.2VSq", "inv.inner", "inv.E",
+]
+
+
+def uncounted(step):
+    """The right rules but for one step, whose ends do not count."""
+    return type("Uncounted", (Rules,), {"uncounted": step})

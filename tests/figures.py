@@ -1,0 +1,179 @@
+"""The figures and edges of paper 01 as inputs of `rate` with the whole text it must print.
+
+In both, `;` stands for byte 10 and a blank for the tab. Where 01 gives a part of a result only, the other lines follow from its table.
+"""
+
+
+def text(short):
+    return short.replace(" ", "\t").replace(";", "\n").encode()
+
+
+def lines(first, count, operation):
+    """A sheet of `count` text lines."""
+    return first + operation * (count - 1)
+
+
+STARRED = [
+    ("second power", "factors 1;pow 1 2;box;10000 30000;",
+     "value 10000 90000;slope 1 20000 60000;depends 1;bent 1;bend 20000 20000;full 20000 20000;"),
+    ("inverse of 2..4", "factors 1;inv 1;box;20000 40000;",
+     "value 2500 5000;slope 1 -2500 -625;depends 1;bent 1;bend 312 2500;full 312 2500;"),
+    ("inverse of 3", "factors 1;inv 1;box;30000 30000;",
+     "value 3333 3334;slope 1 -1112 -1110;depends 1;bent 1;bend 739 742;full 739 742;"),
+    ("third power across 0", "factors 1;pow 1 3;box;-10000 20000;",
+     "value -10000 80000;slope 1 0 120000;depends 1;bent 1;bend -60000 120000;full -60000 120000;"),
+    ("half a unit below 0", "factors 1;mulc 1 -1;box;5000 5000;",
+     "value -1 0;slope 1 -1 -1;depends 1;bent;bend 0 0;full 0 0;"),
+    ("full bend beside the bend", "factors 2;pow 1 2;box;10000 30000;0 10000;",
+     "value 10000 90000;slope 1 20000 60000;slope 2 0 0;depends 1;bent 1;bend 20000 20000;full 0 20000;"),
+    ("join by hull", "factors 2;pow 1 2;pow 2 2;add 3 4;box;0 10000;0 10000;",
+     "value 0 20000;slope 1 0 20000;slope 2 0 20000;depends 1 2;bent 1 2;bend 20000 20000;full 20000 20000;"),
+    ("join by sum", "factors 2;mul 1 2;pow 1 2;add 3 4;box;10000 20000;30000 40000;",
+     "value 40000 120000;slope 1 50000 80000;slope 2 10000 20000;depends 1 2;bent 1 2;bend -10000 30000;full -10000 30000;"),
+    ("product of a square", "factors 2;pow 1 2;mul 3 2;box;10000 10000;10000 10000;",
+     "value 10000 10000;slope 1 20000 20000;slope 2 10000 10000;depends 1 2;bent 1 2;bend -20000 40000;full -20000 40000;"),
+    ("inverse of a range with 0", "factors 1;inv 1;box;0 10000;", "refused 11 2;"),
+    ("inverse of one unit", "factors 1;inv 1;box;1 1;", "refused 12 2;"),
+]
+
+PRINTED = [
+    ("the whole print", "factors 2;mul 1 2;box;10000 20000;30000 40000;",
+     "value 30000 80000;slope 1 30000 40000;slope 2 10000 20000;depends 1 2;bent 1 2;bend -10000 10000;full -10000 10000;"),
+]
+
+AT_LIMIT = "value {0} {1};slope 1 10000 10000;depends 1;bent;bend 0 0;full 0 0;"
+ONE_TO_THE = "value 10000 10000;slope 1 {0} {0};depends 1;bent 1;bend {1} {1};full {1} {1};"
+FACTOR_KEPT = "value 7 9;slope 1 10000 10000;depends 1;bent;bend 0 0;full 0 0;"
+
+EDGES = [
+    ("empty input", "", "refused 2 1;"),
+    ("no operation", "factors 2;", "refused 4 1;"),
+    # no sheet of 4,096 bytes is accepted: the edge shows as refusal 1 in the place of another one
+    ("sheet of 4,096 bytes", "x" * 4096, "refused 2 1;"),
+    ("sheet of 4,097 bytes", "x" * 4097, "refused 1 0;"),
+    ("sheet of 4,096 bytes before a box", "x" * 4095 + ";box;", "refused 2 1;"),
+    ("sheet of 4,097 bytes before a box", "x" * 4096 + ";box;", "refused 1 0;"),
+    ("input of 8,192 bytes", "factors 1;addc 1 0;box;7 9;" + "x" * (8192 - 27), "refused 8 0;"),
+    ("input of 8,193 bytes", "factors 1;addc 1 0;box;7 9;" + "x" * (8193 - 27), "refused 1 0;"),
+    ("line 64", lines("factors 1;", 64, "addc 1 0;") + "box;7 9;", FACTOR_KEPT),
+    ("line 65", lines("factors 1;", 65, "addc 1 0;") + "box;7 9;", "refused 4 65;"),
+    ("line 64 with 8 factors", lines("factors 8;", 57, "addc 1 0;") + "box;", "refused 8 0;"),
+    ("line 65 with 8 factors", lines("factors 8;", 58, "addc 1 0;") + "box;", "refused 4 58;"),
+    ("exponent 1", "factors 1;pow 1 1;box;10000 10000;", "refused 6 2;"),
+    ("exponent 2", "factors 1;pow 1 2;box;10000 10000;", ONE_TO_THE.format(20000, 20000)),
+    ("exponent 8", "factors 1;pow 1 8;box;10000 10000;", ONE_TO_THE.format(80000, 560000)),
+    ("exponent 9", "factors 1;pow 1 9;box;10000 10000;", "refused 6 2;"),
+    ("ends at the limit", "factors 1;addc 1 0;box;-2000000000 2000000000;", AT_LIMIT.format(-2000000000, 2000000000)),
+    ("high end past the limit", "factors 1;addc 1 0;box;0 2000000001;", "refused 9 1;"),
+    ("low end past the limit", "factors 1;addc 1 0;box;-2000000001 0;", "refused 9 1;"),
+    ("result at the limit", "factors 1;addc 1 1;box;0 1999999999;", AT_LIMIT.format(1, 2000000000)),
+    ("result past the limit", "factors 1;addc 1 1;box;0 2000000000;", "refused 12 2;"),
+    ("constant at the limit", "factors 1;addc 1 2000000000;box;0 0;", AT_LIMIT.format(2000000000, 2000000000)),
+    ("constant past the limit", "factors 1;addc 1 2000000001;box;0 0;", "refused 7 2;"),
+    ("no factor", "factors 0;inv 1;", "refused 3 1;"),
+    ("nine factors", "factors 9;inv 1;", "refused 3 1;"),
+    ("reference to its own line", "factors 1;inv 2;", "refused 5 2;"),
+    ("low end above high end", "factors 2;add 1 2;box;0 0;1 0;", "refused 9 2;"),
+    ("no box", "factors 1;inv 1;", "refused 8 0;"),
+    ("a box line too few", "factors 2;add 1 2;box;0 0;", "refused 8 0;"),
+]
+
+# Sentences of 01 that can be read in two ways, and the reading taken.
+READINGS = [
+    ("a minus before a count has the form of a numeral", "factors -1;", "refused 3 1;"),
+    ("a minus before a reference too", "factors 1;inv -1;", "refused 5 2;"),
+    ("a minus before an exponent too", "factors 1;pow 1 -3;", "refused 6 2;"),
+    ("form before count", "factors 9", "refused 2 1;"),
+    ("count before the missing operation", "factors 9;", "refused 3 1;"),
+    ("line 65 without byte 10", lines("factors 1;", 64, "addc 1 0;") + "addc 1 0", "refused 2 65;"),
+    ("line 65 of another form", lines("factors 1;", 64, "addc 1 0;") + "addc 1;", "refused 2 65;"),
+    ("line 65 with a reference that is not earlier", lines("factors 1;", 64, "addc 1 0;") + "addc 99 0;", "refused 4 65;"),
+    ("references before the constant", "factors 1;addc 2 9999999999;", "refused 5 2;"),
+    ("a second first line", "factors 1;factors 1;", "refused 2 2;"),
+    ("a blank line", "factors 1;;inv 1;", "refused 2 2;"),
+    ("byte 13", "factors 1\r;inv 1;", "refused 2 1;"),
+    ("an empty field", "factors 1;addc 1 ;", "refused 2 2;"),
+    ("a field too many", "factors 1;inv 1 1;", "refused 2 2;"),
+    ("leading zero", "factors 01;inv 1;", "refused 2 1;"),
+    ("minus zero", "factors 1;addc 1 -0;", "refused 2 2;"),
+    ("a minus alone", "factors 1;addc 1 -;", "refused 2 2;"),
+    ("a plus", "factors 1;addc 1 +1;", "refused 2 2;"),
+    ("ten digits", "factors 1;addc 1 -9999999999;", "refused 7 2;"),
+    ("eleven digits", "factors 1;addc 1 10000000000;", "refused 2 2;"),
+    ("box without byte 10 is sheet", "factors 1;inv 1;box", "refused 2 3;"),
+    ("a sheet that is empty", "box;1 1;", "refused 2 1;"),
+    ("loading before box lines", "factors 1;inv 7;box;x", "refused 5 2;"),
+    ("box line without byte 10", "factors 1;inv 1;box;10000 10000", "refused 8 0;"),
+    ("a blank box line", "factors 1;inv 1;box;10000 10000;;", "refused 8 0;"),
+    ("a second box", "factors 1;inv 1;box;10000 10000;box;", "refused 8 0;"),
+    ("a box line too many", "factors 1;inv 1;box;10000 10000;10000 10000;", "refused 8 0;"),
+    ("box number of ten digits", "factors 1;inv 1;box;0 9999999999;", "refused 9 1;"),
+    ("box number of eleven digits", "factors 1;inv 1;box;0 10000000000;", "refused 8 0;"),
+    ("box number minus zero", "factors 1;inv 1;box;-0 0;", "refused 8 0;"),
+    ("box number with leading zero", "factors 1;inv 1;box;01 2;", "refused 8 0;"),
+    ("lowest factor first", "factors 2;add 1 2;box;0 2000000001;1 0;", "refused 9 1;"),
+    ("ranges inside a formula count", "factors 1;mulc 1 5000000;inv 2;box;2000000 2000000;", "refused 12 3;"),
+    ("each product of Cross is rounded",
+     "factors 2;mulc 1 1;mulc 2 1;add 3 4;mulc 1 5000;mulc 2 5000;add 6 7;mul 5 8;box;0 0;0 0;",
+     "value 0 0;slope 1 0 0;slope 2 0 0;depends 1 2;bent 1 2;bend -100 102;full -100 102;"),
+    ("the sums of Cross do not count", "factors 2;mulc 1 50000000;mulc 2 100;mul 3 4;box;0 0;0 0;",
+     "value 0 0;slope 1 0 0;slope 2 0 0;depends 1 2;bent 1 2;bend -500000 500000;full -500000 500000;"),
+    ("a line times itself is no second power", "factors 1;mul 1 1;box;-10000 20000;",
+     "value -20000 40000;slope 1 -20000 40000;depends 1;bent 1;bend 20000 20000;full 20000 20000;"),
+    ("Sq over one factor is a second power", "factors 1;pow 1 2;pow 2 2;box;-10000 20000;",
+     "value 0 160000;slope 1 -160000 320000;depends 1;bent 1;bend 0 480000;full 0 480000;"),
+    ("the whole sheet counts, used or not", "factors 1;inv 1;addc 1 0;box;0 10000;", "refused 11 2;"),
+]
+
+
+def operand(first, v, g, e):
+    """Lines from `first` on for v + g x + (e/2) x^2, where line 2 is x^2 and x is 0: its V, G and E are v, g and e."""
+    numbers = (round(e * 5000), round(g * 10000), first, first + 1, first + 2, round(v * 10000))
+    return "mulc 2 {};mulc 1 {};add {} {};addc {} {};".format(*numbers)
+
+
+def one(last, x):
+    return f"factors 1;pow 1 2;{operand(3, *x)}{last};box;0 0;", "refused 12 7;"
+
+
+def two(last, x, y):
+    return f"factors 1;pow 1 2;{operand(3, *x)}{operand(7, *y)}{last};box;0 0;", "refused 12 11;"
+
+
+# One step alone of the last line passes the limit, which is 200,000: (V, G, E) of its operands, lines 6 and 10.
+ALONE = [
+    ("add.V", *two("add 6 10", (150000, 0, 0), (60000, 0, 0))),
+    ("add.G", *two("add 6 10", (0, 150000, 0), (0, 60000, 0))),
+    ("add.join", *two("add 6 10", (0, 0, 150000), (0, 0, 60000))),
+    ("addc.V", *one("addc 6 600000000", (150000, 0, 0))),
+    ("mulc.V", *one("mulc 6 20000", (150000, 0, 0))),
+    ("mulc.G", *one("mulc 6 20000", (0, 150000, 0))),
+    ("mulc.E", *one("mulc 6 20000", (0, 0, 150000))),
+    ("mul.V", *two("mul 6 10", (500, 0, 0), (500, 0, 0))),
+    ("mul.ViGj", *two("mul 6 10", (200000, -20, 0), (1, 1.0001, 0))),
+    ("mul.VjGi", *two("mul 6 10", (1, 1.0001, 0), (200000, -20, 0))),
+    ("mul.G", *two("mul 6 10", (200000, 20, 0), (1, 1, 0))),
+    ("mul.VjEi", *two("mul 6 10", (1, 0, 1.0002), (200000, 0, -40))),
+    ("mul.ViEj", *two("mul 6 10", (200000, 0, -40), (1, 0, 1.0002))),
+    ("mul.join", *two("mul 6 10", (1, -1, 1), (200000, 10, 20))),
+    ("mul.Cross.one", *two("mul 6 10", (0, 400, -100), (400, 300, 0))),
+    ("mul.E", *two("mul 6 10", (0, 300, 300), (100, 300, 0))),
+    ("pow.V", *one("pow 6 2", (500, 0, 0))),
+    ("pow.G", *one("pow 6 2", (400, 300, -100))),
+    ("pow.(m-1)Sq", *one("pow 6 3", (0.1, 320, -100000))),
+    ("pow.VE", *one("pow 6 2", (10, 388, -24000))),
+    ("pow.inner", *one("pow 6 3", (0.1, 310, 200000))),
+    ("pow.E", *one("pow 6 2", (0, 388, 0))),
+    ("inv.V^2", *one("inv 6", (0.002, 0, 0))),
+    ("inv.G", *one("inv 6", (0.01, 25, 125000))),
+    ("inv.Sq.one", *one("inv 6", (10000, 500, 0))),
+    ("inv.2VSq", *one("inv 6", (1, 346, 100000))),
+    ("inv.inner", *one("inv 6", (2, 400, -100000))),
+    ("inv.E", *one("inv 6", (0.1, 20, 0))),
+    # over two factors: 100 x1 - 75 x1^2 - 75 x2^2 times 1600 x1 + 1000, and the inverse of 10000 + 400 x1 + 400 x2
+    ("mul.Cross.sum", "factors 2;pow 1 2;pow 2 2;add 3 4;mulc 5 -750000;mulc 1 1000000;add 6 7;mulc 1 16000000;addc 9 10000000;mul 8 10;"
+     "box;0 0;0 0;", "refused 12 11;"),
+    ("inv.Sq.sum", "factors 2;add 1 2;mulc 3 4000000;addc 4 100000000;inv 5;box;0 0;0 0;", "refused 12 6;"),
+]
+
+FIGURES = [(name, text(given), text(expected)) for name, given, expected in STARRED + PRINTED + EDGES + READINGS + ALONE]

@@ -1,0 +1,8 @@
+"""The rules of paper 01 once more, over unlimited whole numbers and exact fractions, written for clarity and not for speed.
+
+sheet.py   the text of a sheet and refusals 1 to 7
+ranges.py  range arithmetic
+rating.py  sets, bends, the table of the lines, refusals 8 to 12
+exact.py   the exact side, and what a result promises of it
+text.py    the program `rate`: from the bytes of its input to the bytes it prints
+"""

@@ -1,0 +1,185 @@
+"""01, "Sets and bends" and refusals 8 to 12. Factors are counted from 0 here, and from 1 in refusals and in print."""
+from typing import NamedTuple
+
+from .outcome import Refusal, Refused, refuse, unnoted
+from .ranges import LIMIT, ONE, UNIT, ZERO, Arithmetic, PastLimit, Range
+
+
+class Line(NamedTuple):
+    value: Range        # V
+    slopes: tuple       # G, one range per factor
+    depends: frozenset  # P
+    bent: frozenset     # B
+    bend: Range         # E
+
+
+class Result(NamedTuple):
+    value: Range
+    slopes: tuple
+    depends: frozenset
+    bent: frozenset
+    bend: Range
+    full: Range
+
+
+class Rules(Arithmetic):
+    """01's table. Every operation below counts its own ends (refusal 12), but for the summands of a sum over factors."""
+
+    def __init__(self, factors, note=unnoted):
+        super().__init__(note)
+        self.factors = factors
+
+    # ---- parts of the table
+
+    def lift(self, bend, bent, larger):
+        if bent == larger:
+            self.note("lift to an equal set")
+            return bend
+        self.note("lift to a larger set")
+        return self.hull(bend, ZERO)
+
+    def join(self, a, a_bent, b, b_bent, step):
+        if a_bent and b_bent and not a_bent & b_bent:
+            self.note("join by hull")
+            return self.hull(a, b)
+        self.note("join by sum, sets overlap" if a_bent & b_bent else "join by sum, a set is empty")
+        union = a_bent | b_bent
+        return self.sum(self.lift(a, a_bent, union), self.lift(b, b_bent, union), step)
+
+    def squares(self, slopes, over):
+        """"the sum of the largest squares, each divided by 10,000 and rounded up": no step of its own."""
+        return sum(self.up(max(slopes[a].low ** 2, slopes[a].high ** 2), UNIT) for a in over)
+
+    def sq(self, slopes, over, step):
+        if len(over) == 1:
+            self.note("Sq, one factor")
+            (a,) = over
+            return self.power(slopes[a], 2, step + ".one")
+        self.note("Sq, more factors")
+        return self.kept(Range(0, self.squares(slopes, over)), step + ".sum")
+
+    def products(self, g, h, over):
+        """"the sum of the products", each rounded: no step of its own."""
+        each = [self.product_ends(g[a], h[a]) for a in over]
+        return Range(sum(p.low for p in each), sum(p.high for p in each))
+
+    def cross(self, g, h, over):
+        if len(over) == 1:
+            self.note("Cross, one factor")
+            (a,) = over
+            return self.multiple(2, self.product(g[a], h[a], "mul.Cross.one.product"), "mul.Cross.one")
+        beta = self.root_up(self.squares(g, over) * self.squares(h, over))
+        self.note("Cross, more factors, root above 0" if beta else "Cross, more factors, root 0")
+        around = self.kept(Range(-beta, beta), "mul.Cross.root")
+        products = self.kept(self.products(g, h, over), "mul.Cross.products")
+        return self.sum(products, around, "mul.Cross.sum")
+
+    # ---- the lines
+
+    def factor(self, i, r):
+        slopes = tuple(ONE if a == i else ZERO for a in range(self.factors))
+        return Line(r, slopes, frozenset([i]), frozenset(), ZERO)
+
+    def add(self, x, y):
+        return Line(
+            self.sum(x.value, y.value, "add.V"),
+            tuple(self.sum(g, h, "add.G") for g, h in zip(x.slopes, y.slopes)),
+            x.depends | y.depends,
+            x.bent | y.bent,
+            self.join(x.bend, x.bent, y.bend, y.bent, "add.join"))
+
+    def addc(self, x, c):
+        return x._replace(value=self.sum(x.value, Range(c, c), "addc.V"))
+
+    def mulc(self, x, c):
+        constant = Range(c, c)
+        return x._replace(
+            value=self.product(constant, x.value, "mulc.V"),
+            slopes=tuple(self.product(constant, g, "mulc.G") for g in x.slopes),
+            bend=self.product(constant, x.bend, "mulc.E"))
+
+    def mul(self, x, y):
+        both = x.depends | y.depends
+        value = self.product(x.value, y.value, "mul.V")
+        slopes = tuple(
+            self.sum(self.product(x.value, h, "mul.ViGj"), self.product(y.value, g, "mul.VjGi"), "mul.G")
+            for g, h in zip(x.slopes, y.slopes))
+        x_bend = self.product(y.value, x.bend, "mul.VjEi")
+        y_bend = self.product(x.value, y.bend, "mul.ViEj")
+        lifted = self.lift(self.join(x_bend, x.bent, y_bend, y.bent, "mul.join"), x.bent | y.bent, both)
+        bend = self.sum(self.cross(x.slopes, y.slopes, both), lifted, "mul.E")
+        return Line(value, slopes, both, both, bend)
+
+    def pow(self, x, m):
+        value = self.power(x.value, m, "pow.V")
+        outer = self.power(x.value, m - 1, "pow.V^(m-1)")
+        slopes = tuple(self.multiple(m, self.product(outer, g, "pow.V^(m-1)G"), "pow.G") for g in x.slopes)
+        squares = self.multiple(m - 1, self.sq(x.slopes, x.depends, "pow.Sq"), "pow.(m-1)Sq")
+        lifted = self.lift(x.bend, x.bent, x.depends)
+        inner = self.sum(squares, self.product(x.value, lifted, "pow.VE"), "pow.inner")
+        once = self.product(self.power(x.value, m - 2, "pow.V^(m-2)"), inner, "pow.V^(m-2)inner")
+        return Line(value, slopes, x.depends, x.depends, self.multiple(m, once, "pow.E"))
+
+    def inv(self, x):
+        value = self.inverse(x.value)
+        square = self.power(value, 2, "inv.V^2")
+        slopes = tuple(self.negation(self.product(square, g, "inv.G")) for g in x.slopes)
+        twice = self.multiple(2, self.product(value, self.sq(x.slopes, x.depends, "inv.Sq"), "inv.VSq"), "inv.2VSq")
+        lifted = self.lift(x.bend, x.bent, x.depends)
+        bend = self.product(square, self.sum(twice, self.negation(lifted), "inv.inner"), "inv.E")
+        return Line(value, slopes, x.depends, x.depends, bend)
+
+    # ---- a rating
+
+    def line(self, operation, lines):
+        """The next line, or refusal 11 or 12 at its number."""
+        name, numbers = operation
+        place = len(lines) + 1
+        x = lines[numbers[0] - 1]
+        try:
+            if name == "add":
+                line = self.add(x, lines[numbers[1] - 1])
+            elif name == "mul":
+                line = self.mul(x, lines[numbers[1] - 1])
+            elif name == "addc":
+                line = self.addc(x, numbers[1])
+            elif name == "mulc":
+                line = self.mulc(x, numbers[1])
+            elif name == "pow":
+                line = self.pow(x, numbers[1])
+            else:
+                if x.value.low <= 0 <= x.value.high:
+                    self.note("11: inverse of a range with 0")
+                    refuse(11, place)
+                line = self.inv(x)
+        except PastLimit as past:
+            self.note("12 by " + past.args[0])
+            raise Refused(Refusal(12, place)) from None
+        self.note("line " + name)
+        return line
+
+    def result(self, line):
+        full = self.lift(line.bend, line.bent, frozenset(range(self.factors)))
+        return Result(line.value, line.slopes, line.depends, line.bent, line.bend, full)
+
+
+def rate(sheet, ends, rules=Rules, note=unnoted):
+    """The result of ranges, their ends as a flat list, against a sheet (None: the desk is empty), or the first refusal."""
+    if sheet is None:
+        refuse(10, 0)
+    if len(ends) != 2 * sheet.factors:
+        note("8: number")
+        refuse(8, 0)
+    ranges = [Range(*ends[2 * a:2 * a + 2]) for a in range(sheet.factors)]
+    for factor, r in enumerate(ranges, 1):
+        if r.low > r.high:
+            note("9: low end above high end")
+            refuse(9, factor)
+        if r.low < -LIMIT or r.high > LIMIT:
+            note("9: low end beyond the limit" if r.low < -LIMIT else "9: high end beyond the limit")
+            refuse(9, factor)
+    table = rules(sheet.factors, note)
+    lines = [table.factor(a, r) for a, r in enumerate(ranges)]
+    for operation in sheet.operations:
+        lines.append(table.line(operation, lines))
+    return table.result(lines[-1])

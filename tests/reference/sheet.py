@@ -1,0 +1,88 @@
+"""01, "The sheet" and refusals 1 to 7: from bytes to a codelist."""
+import re
+from typing import NamedTuple
+
+from .outcome import refuse, unnoted
+from .ranges import LIMIT
+
+MOST_FACTORS = 8
+MOST_LINES = 64
+MOST_BYTES = 4096
+
+# "an optional minus sign and 1 to 10 decimal digits, with no leading zero except `0` itself, and no `-0`"
+NUMERAL = rb"(0|-?[1-9][0-9]{0,9})"
+FIRST_LINE = re.compile(rb"factors\t" + NUMERAL)
+OPERATION = re.compile(
+    rb"(add|mul|addc|mulc|pow)\t" + NUMERAL + rb"\t" + NUMERAL + rb"|(inv)\t" + NUMERAL)
+
+REFERENCES = {"add": 2, "mul": 2, "addc": 1, "mulc": 1, "pow": 1, "inv": 1}
+
+
+class Operation(NamedTuple):
+    """One operation line: its references first, then the constant or the exponent."""
+    name: str
+    numbers: tuple
+
+
+class Sheet(NamedTuple):
+    factors: int
+    operations: tuple
+
+
+def text_lines(text):
+    """The lines of a text without their byte 10, and whether the last one has it."""
+    lines = text.split(b"\n")
+    ended = lines[-1] == b""
+    return (lines[:-1] if ended else lines), ended
+
+
+def load(text, note=unnoted):
+    """The sheet written in the bytes, or the first refusal."""
+    if len(text) > MOST_BYTES:
+        note("1: sheet over 4,096 bytes")
+        refuse(1, 0)
+    lines, ended = text_lines(text)
+    if not lines:
+        note("2: no first line")
+        refuse(2, 1)
+    factors = 0
+    operations = []
+    for place, line in enumerate(lines, 1):
+        form = (FIRST_LINE if place == 1 else OPERATION).fullmatch(line)
+        if place == len(lines) and not ended:
+            note("2: final byte 10 missing")
+            refuse(2, place)
+        if form is None:
+            note("2: first line's form" if place == 1 else "2: operation line's form")
+            refuse(2, place)
+        if place == 1:
+            factors = int(form[1])
+            if not 1 <= factors <= MOST_FACTORS:
+                note("3: factors below 1" if factors < 1 else "3: factors above 8")
+                refuse(3, 1)
+            continue
+        fields = [field for field in form.groups() if field is not None]
+        operation = Operation(fields[0].decode(), tuple(int(field) for field in fields[1:]))
+        check(operation, factors + place - 1, place, note)
+        operations.append(operation)
+    if not operations:
+        note("4: no operation line")
+        refuse(4, 1)
+    return Sheet(factors, tuple(operations))
+
+
+def check(operation, codelist_line, place, note):
+    """Refusals 4 to 7 of one operation line, in this order."""
+    if codelist_line > MOST_LINES:
+        note("4: codelist line beyond the 64th")
+        refuse(4, place)
+    for reference in operation.numbers[:REFERENCES[operation.name]]:
+        if not 1 <= reference < codelist_line:
+            note("5: reference below 1" if reference < 1 else "5: reference not earlier")
+            refuse(5, place)
+    if operation.name == "pow" and not 2 <= operation.numbers[1] <= 8:
+        note("6: exponent below 2" if operation.numbers[1] < 2 else "6: exponent above 8")
+        refuse(6, place)
+    if operation.name in ("addc", "mulc") and not -LIMIT <= operation.numbers[1] <= LIMIT:
+        note("7: constant beyond the limit")
+        refuse(7, place)
