@@ -198,11 +198,8 @@ fn refusal(r: Refusal) -> Text
 {
     let number = wide(r.number());
     let place = r.place();
-    Text::empty()
-        .word(b"refused")
-        .natural(number)
-        .natural(place)
-        .put(LINE_END)
+    let word = Text::empty().word(b"refused");
+    word.natural(number).natural(place).put(LINE_END)
 }
 
 fn wide(x: u8) -> u64

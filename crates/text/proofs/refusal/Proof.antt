@@ -1,7 +1,9 @@
 -- `text::refusal` meets its contract. Assumes nothing.
-use mathlib.Core.Path.{_∙_}
+use Prim.Native.Nat.{ℕ}
+use mathlib.Core.Path.{ap, _∙_}
 use borrow.Author.Needs.{needs}
-use Rattle.text.specs.Output.{refusalText}
+use Rattle.text.specs.Output.{naturalField, refusalText}
+use Rattle.text.specs.Writer.{append}
 use Rattle.text.proofs.Writing.{then, then-put, begun}
 use Rattle.text.proofs.refusal.Statement.{statement}
 use Rattle.text.proofs.refusal.Tie as tie
@@ -15,10 +17,9 @@ returns c =
     let o = w .before .before in
     let p = o .before in
     let number = p .before .wide .ensures ∙ p .before .before .number .ensures in
-    begun _ _ _ (o .empty .ensures)
-    (then _ _ _ _ _ (w .word .ensures)
-    (then _ _ _ _ _ (rw number at (a .natural .ensures))
-    (then-put _ _ _ _ _ (rw (p .place .ensures) at (b .natural2 .ensures)) (c .put .ensures))))
+    let first = a .natural .ensures ∙ ap (λ (m : ℕ). append (w .word .result) (naturalField m)) number in
+    let second = b .natural2 .ensures ∙ ap (λ (m : ℕ). append (a .natural .result) (naturalField m)) (p .place .ensures) in
+    begun _ _ _ (o .empty .ensures) (then _ _ _ _ _ (w .word .ensures) (then _ _ _ _ _ first (then-put _ _ _ _ _ second (c .put .ensures))))
 
 pub refusal-spec : {M : Type 1} → statement M
 refusal-spec =
