@@ -7,18 +7,18 @@ use borrow.Author.Tests.{eq-eqb, ne-eqb}
 use lib.IntN.{ℤ}
 use lib.ListN.{length}
 use Rattle.codelist.specs.declared.Codelist.{Codelist}
-use Rattle.codelist.specs.Codelist.{wellFormed}
+use Rattle.codelist.specs.Codelist.{ratable}
 use Rattle.rules.specs.declared.Refusal.the-variants.{NoCodelist, RangeCount, BadRange}
 use Rattle.rules.specs.Run.{linesOf}
 use Rattle.rules.specs.Rate.{refused, finished, pairs, firstBad, rateRanges, rateOf}
 
 module _ (c : Codelist) (xs : List ℤ) where
   -- 10
-  pub no-codelist : wellFormed c ≡ false → refused NoCodelist ≡ rateOf c xs
+  pub no-codelist : ratable c ≡ false → refused NoCodelist ≡ rateOf c xs
   unfolding rateOf
   no-codelist e = rw e
 
-  module _ (w : wellFormed c ≡ true) where
+  module _ (w : ratable c ≡ true) where
     -- 8
     pub bad-count : ¬ (length xs ≡ 2 * c .factors) → refused RangeCount ≡ rateOf c xs
     unfolding rateOf

@@ -16,8 +16,8 @@ use Rattle.codelist.specs.declared.Op.{Op}
 use Rattle.codelist.specs.declared.Op.the-variants.{Inv}
 use Rattle.codelist.specs.declared.Entry.{Entry}
 use Rattle.codelist.specs.declared.Codelist.{Codelist}
-use Rattle.codelist.specs.Codelist.{blank, Earlier, WellFormedOp, WellFormed}
-use Rattle.codelist.proofs.WellFormed as W
+use Rattle.codelist.specs.Codelist.{blank, Earlier, WellFormedOp, Ratable}
+use Rattle.codelist.proofs.Ratable as W
 use Rattle.rules.specs.declared.Line.{Line}
 use Rattle.rules.specs.declared.Refusal.the-variants.{Divisor, Overflow}
 use Rattle.rules.specs.Table.{Row, lineOf}
@@ -67,7 +67,7 @@ module _ (c : Codelist) (rs : List Range) where
       }
 
   -- no operation is left
-  pub ran-end : (lines : List Line) (k : ℕ) → WellFormed c → Ran lines k → c .factors + c .count ≤ k
+  pub ran-end : (lines : List Line) (k : ℕ) → Ratable c → Ran lines k → c .factors + c .count ≤ k
       → rated (limitsOf (c .factors) (getD lines (c .factors + c .count - 1) emptyLine)) ≡ finished (c .factors) (linesOf c rs)
   unfolding runOps
   ran-end lines k w i h =
@@ -87,7 +87,7 @@ opAt c k = getD (c .ops) (k - c .factors) blank .op
 
 -- an operation is left
 pub record Going (c : Codelist) (rs : List Range) (lines : List Line) (k : ℕ) : Type 0 where
-  pub sound : WellFormed c
+  pub sound : Ratable c
   pub ran : Ran c rs lines k
   pub more : k < c .factors + c .count
 

@@ -10,7 +10,8 @@ mod gradient; // gradient.rt: the gradient of a row, for the members of a set
 mod rows; // rows.rt: the rows of 01's table, a function each; and in it the run over a codelist
 mod spectrum; // spectrum.rt: sets of factors, and spectra over them
 
-// Rates the ranges `xs`, two numbers for each factor. A codelist that no accepted load could have left counts as none.
+// Rates the ranges `xs`, two numbers for each factor. A codelist that can't be rated counts as none, as an empty engine's:
+// one without factors or operations, with too many of them, or with an operation that is not well formed.
 pub fn rate(c: Codelist, xs: &[i64]) -> Rating
     ensures { λ r. ⌜ r ≡ rateOf c (now (xs .entry)) ⌝ }
 {

@@ -9,14 +9,14 @@ use Rattle.codelist.specs.declared.Entry.{Entry}
 use Rattle.codelist.specs.declared.Loaded.{Loaded}
 use Rattle.codelist.specs.declared.Outcome.the-variants.{Accepted, Refused}
 use Rattle.codelist.specs.declared.Refusal.{Refusal}
-use Rattle.codelist.specs.Codelist.{blank, WellFormed}
+use Rattle.codelist.specs.Codelist.{blank, WellFormed, Ratable}
 use Rattle.codelist.specs.Write.{plain, opsText, textOf}
 use Rattle.codelist.specs.Text.{firstText}
 use Rattle.codelist.specs.Load.{empty, refused, accepted, codelistOf, ended, loadOf}
 use Rattle.codelist.specs.Accepted.{AcceptedExactly}
 use Rattle.codelist.specs.Refused.{Upto}
 use Rattle.codelist.proofs.Lengths.{text-length}
-use Rattle.codelist.proofs.WellFormed.{taken}
+use Rattle.codelist.proofs.Ratable as R
 use Rattle.codelist.proofs.Steps.{step-end}
 use Rattle.codelist.proofs.Classified.{Class, kept, turned-down, classify}
 use Rattle.codelist.proofs.Resumed.{resumed}
@@ -24,6 +24,9 @@ use Rattle.codelist.proofs.Resumed.{resumed}
 -- Accepted and refused are not the same
 pub not-both : {X : Type 0} (c : Codelist) (r : Refusal) → accepted c ≡ refused r → X
 not-both c r e = absurd (let f : Accepted ≡ Refused r = ap (λ (x : Loaded). x .outcome) e in let z : _≡_ {A = ℕ} 0 1 = cc f in omega arith)
+
+taken : (c : Codelist) → WellFormed c → length (take (c .count) (c .ops)) ≡ c .count
+taken c w = R.taken c (R.well-formed-ratable w)
 
 -- A well formed codelist is the one of its factors and its operations
 codelist-is : (c : Codelist) → WellFormed c → codelistOf (c .factors) (take (c .count) (c .ops)) ≡ c
@@ -97,6 +100,6 @@ refused-empty s r e = go (loadOf s) e (classify s)
         ∙ p in let z : _≡_ {A = ℕ} 0 1 = cc f in omega arith)
     go x p (turned-down k q u) = ap (λ (y : Loaded). y .codelist) q
 
-pub empty-not-well-formed : WellFormed empty → ⊥
+pub empty-not-ratable : Ratable empty → ⊥
 unfolding empty
-empty-not-well-formed w = omega (arith, w .some)
+empty-not-ratable w = omega (arith, w .some)

@@ -142,6 +142,9 @@ pub both-true : (a b : Bool) → (a && b) ≡ true → (a ≡ true) × (b ≡ tr
 both-true true b e = (refl, e)
 both-true false b e = absurd (false≢true e)
 
+pub both-made : (a b : Bool) → a ≡ true → b ≡ true → (a && b) ≡ true
+both-made a b p q = rw (p, q)
+
 pub within-inv : (low high : ℕ) (w : Numeral) → within low high w ≡ true → (w .negative ≡ false) × (low ≤ w .magnitude)
     × (w .magnitude ≤ high)
 unfolding within

@@ -6,6 +6,7 @@ pub mod Lengths
 pub mod Steps
 pub mod Loop
 pub mod WellFormed
+pub mod Ratable
 pub mod Lines
 pub mod Resumed
 pub mod Classified

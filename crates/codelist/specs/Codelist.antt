@@ -1,6 +1,7 @@
--- Which codelists are well formed: those that an accepted text leaves. 01, "The sheet" and "What the engine takes and gives".
-use Prim.Native.Nat.{ℕ, suc, zero, _+_, _-_, _≤_}
-use mathlib.Core.Bool.{Bool, true, false, _&&_}
+-- Which codelists are well formed: those that an accepted text leaves. And which are ratable: those whose operations are well formed, whatever
+-- stands behind them. 01, "The sheet" and "What the engine takes and gives".
+use Prim.Native.Nat.{ℕ, _+_, _-_, _≤_}
+use mathlib.Core.Bool.{Bool, true, _&&_}
 use mathlib.Core.List.{List, [], _∷_}
 use mathlib.Core.Logic.{_↔_}
 use mathlib.Core.Path.{_≡_}
@@ -49,6 +50,16 @@ pub record WellFormed (c : Codelist) : Type 0 where
   pub each : WellFormedOps (c .factors) (take (c .count) (c .ops))
   pub blanks : drop (c .count) (c .ops) ≡ replicate (64 - c .count) blank
 
+-- A RATABLE CODELIST: what rating reads of it, its counts and its operations, is as in a well formed one. Nothing is asked of the entries behind
+-- the last operation: rating reads none of them, so they can change no result. Every well formed codelist is ratable (proofs/Ratable.antt).
+pub record Ratable (c : Codelist) : Type 0 where
+  pub factors : (1 ≤ c .factors) × (c .factors ≤ 8)
+  pub some : 1 ≤ c .count
+  pub few : c .factors + c .count ≤ 64
+  pub each : WellFormedOps (c .factors) (take (c .count) (c .ops))
+  -- so of every value that a program can hold, by its type
+  pub array : length (c .ops) ≡ 64
+
 -- The same, computed
 abbrev pub isEarlier : ℕ → ℕ → Bool
 isEarlier e i = leb 1 i && leb i e
@@ -67,30 +78,16 @@ wellFormedOp e (MulC i c) = isEarlier e i && isConstant c
 wellFormedOp e (Pow i m) = isEarlier e i && isExponent m
 wellFormedOp e (Inv i) = isEarlier e i
 
-unfoldable pub isBlank : Op → Bool
-isBlank (Inv i) = eqb i 0
-isBlank (Add i j) = false
-isBlank (Mul i j) = false
-isBlank (AddC i c) = false
-isBlank (MulC i c) = false
-isBlank (Pow i m) = false
-
-unfoldable pub blanksOnly : List Entry → Bool
-blanksOnly [] = true
-blanksOnly (x ∷ xs) = isBlank (x .op) && blanksOnly xs
-
--- The first so many entries are operations, the first of them with e codelist lines before it, and the others are blanks
-unfoldable pub wellFormedOps : ℕ → ℕ → List Entry → Bool
-wellFormedOps e zero xs = blanksOnly xs
-wellFormedOps e (suc k) [] = false
-wellFormedOps e (suc k) (x ∷ xs) = wellFormedOp e (x .op) && wellFormedOps (e + 1) k xs
+unfoldable pub wellFormedOps : ℕ → List Entry → Bool
+wellFormedOps e [] = true
+wellFormedOps e (x ∷ xs) = wellFormedOp e (x .op) && wellFormedOps (e + 1) xs
 
 abbrev pub inBounds : Codelist → Bool
 inBounds c = leb 1 (c .factors) && leb (c .factors) 8 && leb 1 (c .count) && leb (c .factors + c .count) 64
 
-unfoldable pub wellFormed : Codelist → Bool
-wellFormed c = inBounds c && eqb (length (c .ops)) 64 && wellFormedOps (c .factors) (c .count) (c .ops)
+unfoldable pub ratable : Codelist → Bool
+ratable c = inBounds c && eqb (length (c .ops)) 64 && wellFormedOps (c .factors) (take (c .count) (c .ops))
 
--- It is true exactly there: a statement, which proofs/WellFormed.antt proves
-abbrev pub DecidesWellFormed : Type 0
-DecidesWellFormed = (c : Codelist) → (wellFormed c ≡ true) ↔ WellFormed c
+-- It is true exactly there: a statement, which proofs/Ratable.antt proves
+abbrev pub DecidesRatable : Type 0
+DecidesRatable = (c : Codelist) → (ratable c ≡ true) ↔ Ratable c

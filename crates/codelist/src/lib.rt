@@ -3,7 +3,7 @@ ghost use mathlib.Core.Path.{_≡_};
 ghost use mathlib.Core.List.{[]};
 ghost use Prim.Native.Nat.{_≤_, _<_, _-_};
 ghost use lib.ListN.{drop};
-ghost use Rattle.codelist.specs.Codelist.{limit, isEarlier, isExponent, isConstant, isBlank, wellFormedOp, wellFormed};
+ghost use Rattle.codelist.specs.Codelist.{limit, isEarlier, isExponent, isConstant, wellFormedOp, ratable};
 ghost use Rattle.codelist.specs.Conditions.{within, refersBack, exponentFits, constantFits};
 ghost use Rattle.codelist.specs.Read.{_or_, peek, digit, digits, positive, numeral, field, literal, named, keyword};
 ghost use Rattle.codelist.specs.Read.{pair, operands, operationLine, firstLine};
@@ -618,19 +618,10 @@ fn is_op_well_formed(earlier: u64, op: Op) -> bool
     }
 }
 
-// Whether an entry is the one that stands past the last operation.
-fn is_blank(op: Op) -> bool
-    ensures { λ r. ⌜ r ≡ isBlank op ⌝ }
-{
-    match op {
-        Op::Inv(i) => i == 0,
-        _ => false,
-    }
-}
-
-// Whether a codelist is one that an accepted load leaves: one pass over the entries.
-pub fn is_well_formed(c: Codelist) -> bool
-    ensures { λ r. ⌜ r ≡ wellFormed c ⌝ }
+// Whether a codelist can be rated: one pass over its operations. Every accepted load leaves one that can; the entries behind the last
+// operation are not looked at, since rating never reads them.
+pub fn is_ratable(c: Codelist) -> bool
+    ensures { λ r. ⌜ r ≡ ratable c ⌝ }
 {
     let n = c.factors as u64;
     let count = c.count as usize;
@@ -642,14 +633,6 @@ pub fn is_well_formed(c: Codelist) -> bool
         let x = c.ops[k];
         let op = x.op;
         if !is_op_well_formed(n + k as u64, op) {
-            return false;
-        }
-        k += 1;
-    }
-    while k < MOST_LINES {
-        let x = c.ops[k];
-        let op = x.op;
-        if !is_blank(op) {
             return false;
         }
         k += 1;

@@ -11,11 +11,12 @@ use lib.ListN.{length}
 use Rattle.codelist.specs.declared.Outcome as loading
 use Rattle.codelist.specs.declared.Refusal as codelist
 use Rattle.codelist.specs.declared.Codelist.{Codelist}
-use Rattle.codelist.specs.Codelist.{WellFormed, wellFormed}
+use Rattle.codelist.specs.Codelist.{WellFormed, ratable}
 use Rattle.codelist.specs.Load as Load
 use Rattle.codelist.specs.Refused.{RefusedFor}
 use Rattle.codelist.specs.Write.{textOf}
 use Rattle.codelist.proofs.Accepted.{accepted-exactly, refused-empty}
+use Rattle.codelist.proofs.Ratable.{well-formed-ratable}
 use Rattle.codelist.proofs.Refused.{refused-exactly}
 use Rattle.rules.specs.declared.Outcome as rating
 use Rattle.rules.specs.declared.Refusal as rules
@@ -117,7 +118,7 @@ shape-lines n (stopped r) = inr (r, refl)
 
 shape : (c : Codelist) (xs : List ℤ) → Shape (rateOf c xs)
 unfolding rateOf rateRanges
-shape c xs = shape-if (wellFormed c) (shape-if (eqb (length xs) (2 * c .factors)) (ranges (firstBad 1 (Rate.pairs xs))) (inr (_, refl))) (inr (_, refl))
+shape c xs = shape-if (ratable c) (shape-if (eqb (length xs) (2 * c .factors)) (ranges (firstBad 1 (Rate.pairs xs))) (inr (_, refl))) (inr (_, refl))
   where
     ranges : (k : ℕ) → Shape (rateRanges c (Rate.pairs xs) k)
     ranges zero = shape-lines (c .factors) (linesOf c (Rate.pairs xs))
@@ -162,8 +163,15 @@ module _ (e : Engine) (xs : List ℤ) (r : rules.Refusal) where
   unfolding ratedOf
   refused-back h = ap (λ (y : Rating). outcomeOf (y .outcome)) h
 
+-- 10 is never given of what an accepted load leaves
+never-ten : (e : Engine) (xs : List ℤ) → WellFormed (e .codelist)
+    → ¬ (ratedOf e xs .outcome ≡ Refused (refusal.the-variants.Rate rules.the-variants.NoCodelist))
+never-ten e xs w h =
+    Rules.refused-exactly .where-listed (e .codelist) xs rules.the-variants.NoCodelist .0 (same-refusal e xs rules.the-variants.NoCodelist h)
+    (well-formed-ratable w)
+
 pub demands : Demands
-unfolding loadedOf ratedOf emptyEngine Load.empty rateOf wellFormed
+unfolding loadedOf ratedOf emptyEngine Load.empty rateOf ratable
 demands = record {
   load-decided = λ e s. decided e (Load.loadOf s .outcome) (Load.loadOf s .codelist);
   rate-decided = λ e xs. rate-decided (rateOf (e .codelist) xs) (shape (e .codelist) xs);
@@ -180,6 +188,7 @@ demands = record {
       let i = Rules.refused-exactly .where-listed (e .codelist) xs r in
       (λ h. i .0 (same-refusal e xs r h), λ w. refused-back e xs r (i .1 w));
   empty-refused = λ xs. refl;
+  loaded-not-empty = λ e s xs h r. never-ten (loadedOf e s .engine) xs (written e s h .0) r;
   shaped = λ e xs h. shaped (e .codelist) xs (ratedOf e xs .limits) (rated-with (rateOf (e .codelist) xs) (shape (e .codelist) xs) h);
   sound = λ e xs h p i. sound (e .codelist) xs (ratedOf e xs .limits) (rated-with (rateOf (e .codelist) xs) (shape (e .codelist) xs) h) p i;
 }

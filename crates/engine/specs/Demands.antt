@@ -45,8 +45,10 @@ pub record Demands : Type 0 where
   -- and so does each refusal of rating of the codelist and the numbers
   pub rate-refused-listed : (e : Engine) (xs : List ℤ) (r : rules.Refusal)
       → (ratedOf e xs .outcome ≡ Refused (refusal.the-variants.Rate r)) ↔ Rules.RefusedFor (e .codelist) xs r
-  -- an engine that was started and not loaded is refused with 10
+  -- an engine that was started and not loaded is refused with 10, and one that an accepted load left never is
   pub empty-refused : (xs : List ℤ) → ratedOf emptyEngine xs .outcome ≡ Refused (refusal.the-variants.Rate NoCodelist)
+  pub loaded-not-empty : (e : Engine) (s : List ℕ) (xs : List ℤ) → loadedOf e s .outcome ≡ Accepted
+      → ¬ (ratedOf (loadedOf e s .engine) xs .outcome ≡ Refused (refusal.the-variants.Rate NoCodelist))
   -- "a pair beyond the last factor is 0, 0", and "For an empty B, E is zero"
   pub shaped : (e : Engine) (xs : List ℤ) → ratedOf e xs .outcome ≡ Accepted → Shaped (e .codelist) (ratedOf e xs .limits)
   -- 3. "Whatever accepted sheet and ranges, whatever point with fractions as coordinates inside them, whatever list v of whole numbers"

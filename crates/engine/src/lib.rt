@@ -5,7 +5,9 @@ ghost use Rattle.rules.specs.Rate;
 use codelist::Codelist;
 use rules::Limits;
 
-// Started empty; loading replaces the codelist, or, refused, keeps it. A codelist that no accepted load could have left counts as none.
+// Started empty; loading replaces the codelist, or, refused, keeps it. A codelist that can't be rated counts as none, as that of an empty engine:
+// one without factors or operations, with too many of them, or with an operation that is not well formed, as one that refers to a line that is
+// not earlier.
 pub struct Engine {
     pub codelist: Codelist,
 }

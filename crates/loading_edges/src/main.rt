@@ -25,7 +25,7 @@ fn load(text: &[u8]) -> Found {
     let loaded = codelist::load(text);
     let outcome = loaded.outcome;
     let c = loaded.codelist;
-    let kept = codelist::is_well_formed(c);
+    let kept = codelist::is_ratable(c);
     match outcome {
         Outcome::Accepted => Found {
             number: 0,

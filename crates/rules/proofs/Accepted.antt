@@ -12,8 +12,8 @@ use lib.ListN.{length, length-append}
 use borrow.Author.Tests.{eqb-true}
 use Rattle.codelist.specs.declared.Entry.{Entry}
 use Rattle.codelist.specs.declared.Codelist.{Codelist}
-use Rattle.codelist.specs.Codelist.{WellFormed, wellFormed}
-use Rattle.codelist.proofs.WellFormed as WellFormed
+use Rattle.codelist.specs.Codelist.{Ratable, ratable}
+use Rattle.codelist.proofs.Ratable.{decides}
 use Rattle.range.specs.declared.Range.{Range}
 use Rattle.range.specs.Sums.{at}
 use Rattle.rules.specs.declared.Line.{Line}
@@ -27,9 +27,9 @@ use Rattle.rules.specs.Rate.{last, limitsOf, rated, refused, pairs, fini
 use Rattle.rules.specs.Exact.{Point, Jet, factorJet, exactLines, premiumOf}
 use Rattle.rules.proofs.Along.{at-turn, Along, along-last, along-run, along-factors, Kept}
 
--- the codelist is well formed, there is a range per factor, and the limits are those of the last line of a run that went through
+-- the codelist is ratable, there is a range per factor, and the limits are those of the last line of a run that went through
 pub record Accepted (c : Codelist) (xs : List ℤ) (l : Limits) : Type 0 where
-  pub formed : WellFormed c
+  pub codelist : Ratable c
   pub count : length (pairs xs) ≡ c .factors
   pub lines : List Line
   pub ran : linesOf c (pairs xs) ≡ through lines
@@ -62,11 +62,11 @@ through-to n (stopped r) e = absurd (not-rated e)
 pub accepted : (c : Codelist) (xs : List ℤ) (l : Limits) → rateOf c xs ≡ rated l → Accepted c xs l
 unfolding rateOf
 accepted c xs l e =
-    let w = passed NoCodelist (wellFormed c) e in
+    let w = passed NoCodelist (ratable c) e in
     let n = passed RangeCount (eqb (length xs) (2 * c .factors)) (w .1) in
     let t = through-to (c .factors) (linesOf c (pairs xs)) (ranged c (pairs xs) (firstBad 1 (pairs xs)) (n .1)) in
     record {
-      formed = WellFormed.decides c .0 (w .0);
+      codelist = decides c .0 (w .0);
       count = pairs-length xs (c .factors) (eqb-true (length xs) (2 * c .factors) (n .0));
       lines = t .0;
       ran = t .1 .0;
@@ -97,7 +97,7 @@ module _ (R : Option Jet → Option Jet → Line → Type 0) (K : Kept R)
       let first = factorLines 0 (pairs xs) in
       let count : length first ≡ c .factors = factors-length 0 (pairs xs) ∙ A .count in
       along-run R K (operations c) first (A .lines)
-      (rw count (A .formed .each))
+      (rw count (A .codelist .each))
       (rw (A .count) at (along-factors R p q 0 (pairs xs) (λ a k. rw (N.zero-add a) (h a (omega (arith, A .count))))))
       (A .ran)
 
@@ -105,4 +105,4 @@ module _ (R : Option Jet → Option Jet → Line → Type 0) (K : Kept R)
   unfolding premiumOf linesOf
   last-line =
       let grown = run-grows (operations c) (factorLines 0 (pairs xs)) (A .lines) (A .ran) in
-      along-last R (omega (arith, factors-length 0 (pairs xs), A .count, A .formed .factors .0)) every-line
+      along-last R (omega (arith, factors-length 0 (pairs xs), A .count, A .codelist .factors .0)) every-line

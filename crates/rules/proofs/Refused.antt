@@ -10,8 +10,8 @@ use lib.IntN.{ℤ}
 use lib.ListN.{length}
 use borrow.Author.Tests.{eq-eqb, eqb-true}
 use Rattle.codelist.specs.declared.Codelist.{Codelist}
-use Rattle.codelist.specs.Codelist.{WellFormed, wellFormed}
-use Rattle.codelist.proofs.WellFormed as W
+use Rattle.codelist.specs.Codelist.{Ratable, ratable}
+use Rattle.codelist.proofs.Ratable.{decides}
 use Rattle.range.specs.declared.Range.{Range}
 use Rattle.range.specs.Limit.{isValid}
 use Rattle.range.specs.Sums.{at}
@@ -24,7 +24,7 @@ use Rattle.rules.specs.declared.Rating.{Rating}
 use Rattle.rules.specs.Run.{Lines, through, stopped, factorLines, operations, linesOf}
 use Rattle.rules.specs.Rate.{limitsOf, last, rated, refused, pairs, finished, firstBad, rateRanges, rateOf}
 use Rattle.rules.specs.Overflow.{none, more}
-use Rattle.rules.specs.Refused.{rangeOf, Bad, Ratable, RefusedFor, RefusedExactly}
+use Rattle.rules.specs.Refused.{rangeOf, Bad, Runnable, RefusedFor, RefusedExactly}
 use Rattle.rules.proofs.Accepted.{pairs-length, not-rated}
 use Rattle.rules.proofs.Overflow.{factor-within}
 use Rattle.rules.proofs.Passing.{refuted-iff, bad-iff, good-iff}
@@ -81,8 +81,8 @@ same-refusal : {r s : Refusal} → refused r ≡ refused s → r ≡ s
 same-refusal {r} {s} h = let e : Refused r ≡ Refused s = ap (λ (x : Rating). x .outcome) h in cc
 
 module _ (c : Codelist) (xs : List ℤ) where
-  formed-iff : (wellFormed c ≡ true) ↔ WellFormed c
-  formed-iff = W.decides c
+  ratable-iff : (ratable c ≡ true) ↔ Ratable c
+  ratable-iff = decides c
 
   count-iff : (eqb (length xs) (2 * c .factors) ≡ true) ↔ (length xs ≡ 2 * c .factors)
   count-iff = (eqb-true (length xs) (2 * c .factors), eq-eqb (length xs) (2 * c .factors))
@@ -91,16 +91,16 @@ module _ (c : Codelist) (xs : List ℤ) where
   from-zero : {n : ℕ} → ((a : ℕ) → 1 ≤ a → a ≤ n → ¬ (Bad (rangeOf xs a))) → Good n (pairs xs)
   from-zero f i l = let e : suc i - 1 ≡ i = omega arith in rw e at (f (suc i) (omega arith) (omega arith))
 
-  good-ranges : Ratable c xs → Good (length (pairs xs)) (pairs xs)
+  good-ranges : Runnable c xs → Good (length (pairs xs)) (pairs xs)
   good-ranges t = rw (pairs-length xs (c .factors) (t .count)) (from-zero (t .good))
 
   -- the ranges are looked at
-  counted : WellFormed c → length xs ≡ 2 * c .factors → rateOf c xs ≡ rateRanges c (pairs xs) (firstBad 1 (pairs xs))
+  counted : Ratable c → length xs ≡ 2 * c .factors → rateOf c xs ≡ rateRanges c (pairs xs) (firstBad 1 (pairs xs))
   unfolding rateOf
-  counted w n = let f = formed-iff .1 w in let g = count-iff .1 n in rw (f, g)
+  counted w n = let f = ratable-iff .1 w in let g = count-iff .1 n in rw (f, g)
 
   -- the lines are run
-  module _ (t : Ratable c xs) where
+  module _ (t : Runnable c xs) where
     ran : rateOf c xs ≡ finished (c .factors) (linesOf c (pairs xs))
     unfolding rateRanges
     ran = counted (t .codelist) (t .count) ∙ ap (rateRanges c (pairs xs)) (none-bad 1 (pairs xs) (good-ranges t))
@@ -118,7 +118,7 @@ module _ (c : Codelist) (xs : List ℤ) where
     kept : (l : Limits) → x ≡ rated l → Class x
     turned-down : (r : Refusal) → x ≡ refused r → RefusedFor c xs r → Class x
 
-  class-lines : Ratable c xs → Class (finished (c .factors) (linesOf c (pairs xs)))
+  class-lines : Runnable c xs → Class (finished (c .factors) (linesOf c (pairs xs)))
   class-lines t = go (linesOf c (pairs xs)) (λ r. run-iff t r .0)
     where
       go : (x : Lines) → ((r : Refusal) → x ≡ stopped r → RunRefused r (operations c) (factorLines 0 (pairs xs)))
@@ -130,7 +130,7 @@ module _ (c : Codelist) (xs : List ℤ) where
       go (stopped (Divisor k)) f = turned-down (Divisor k) refl (t, f (Divisor k) refl)
       go (stopped (Overflow k)) f = turned-down (Overflow k) refl (t, f (Overflow k) refl)
 
-  class-ranges : WellFormed c → length xs ≡ 2 * c .factors → (n : ℕ) → Found 1 (pairs xs) n → Class (rateRanges c (pairs xs) n)
+  class-ranges : Ratable c → length xs ≡ 2 * c .factors → (n : ℕ) → Found 1 (pairs xs) n → Class (rateRanges c (pairs xs) n)
   unfolding rateRanges
   class-ranges w m zero (no-bad e g) =
       class-lines (record { codelist = w; count = m; good = λ a p l. g (a - 1) (omega (arith, pairs-length xs (c .factors) m)) })
@@ -149,13 +149,13 @@ module _ (c : Codelist) (xs : List ℤ) where
 
   classify : Class (rateOf c xs)
   unfolding rateOf
-  classify = go (wellFormed c) (eqb (length xs) (2 * c .factors)) refl refl
+  classify = go (ratable c) (eqb (length xs) (2 * c .factors)) refl refl
     where
-      go : (b d : Bool) → wellFormed c ≡ b → eqb (length xs) (2 * c .factors) ≡ d
+      go : (b d : Bool) → ratable c ≡ b → eqb (length xs) (2 * c .factors) ≡ d
           → Class (cond b (cond d (rateRanges c (pairs xs) (firstBad 1 (pairs xs))) (refused RangeCount)) (refused NoCodelist))
-      go false d p q = turned-down NoCodelist refl (refuted-iff true formed-iff .0 p)
-      go true false p q = turned-down RangeCount refl (formed-iff .0 p, refuted-iff true count-iff .0 q)
-      go true true p q = class-ranges (formed-iff .0 p) (count-iff .0 q) (firstBad 1 (pairs xs)) (found 1 (pairs xs))
+      go false d p q = turned-down NoCodelist refl (refuted-iff true ratable-iff .0 p)
+      go true false p q = turned-down RangeCount refl (ratable-iff .0 p, refuted-iff true count-iff .0 q)
+      go true true p q = class-ranges (ratable-iff .0 p) (count-iff .0 q) (firstBad 1 (pairs xs)) (found 1 (pairs xs))
 
   refused-sound : (r : Refusal) → rateOf c xs ≡ refused r → RefusedFor c xs r
   refused-sound r h = go classify
@@ -164,13 +164,13 @@ module _ (c : Codelist) (xs : List ℤ) where
       go (kept l e) = absurd (not-rated (sym h ∙ e))
       go (turned-down q e t) = subst (RefusedFor c xs) (same-refusal (sym e ∙ h)) t
 
-  late-complete : Ratable c xs → (r : Refusal) → RunRefused r (operations c) (factorLines 0 (pairs xs)) → rateOf c xs ≡ refused r
+  late-complete : Runnable c xs → (r : Refusal) → RunRefused r (operations c) (factorLines 0 (pairs xs)) → rateOf c xs ≡ refused r
   late-complete t r s = ran t ∙ ap (finished (c .factors)) (run-iff t r .1 s)
 
   refused-complete : (r : Refusal) → RefusedFor c xs r → rateOf c xs ≡ refused r
   unfolding rateOf rateRanges
-  refused-complete NoCodelist n = let f = refuted-iff true formed-iff .1 n in rw f
-  refused-complete RangeCount (w, n) = let f = formed-iff .1 w in let g = refuted-iff true count-iff .1 n in rw (f, g)
+  refused-complete NoCodelist n = let f = refuted-iff true ratable-iff .1 n in rw f
+  refused-complete RangeCount (w, n) = let f = ratable-iff .1 w in let g = refuted-iff true count-iff .1 n in rw (f, g)
   refused-complete (BadRange zero) t = absurd (omega (arith, t .factor .0))
   refused-complete (BadRange (suc a)) t =
       let e : suc a - 1 ≡ a = omega arith in

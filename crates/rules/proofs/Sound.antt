@@ -69,7 +69,7 @@ module _ {c : Codelist} {xs : List ℤ} {l : Limits} (A : Accepted c xs l) (p : 
   result = last (A .lines)
 
   few : c .factors ≤ 8
-  few = A .formed .factors .1
+  few = A .codelist .factors .1
 
   factor : (q : Point) (a : ℕ) → a < c .factors
       → WholeLine n p q (some (factorJet p a)) (some (factorJet q a)) (lineOf (factorRow a (at (pairs xs) a)))

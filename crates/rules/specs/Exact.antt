@@ -103,7 +103,7 @@ abbrev pub invert : Jet → Option ℚ → Option Jet
 invert x none = none
 invert x (some y) = some (invJet x y)
 
--- what a reference to no line gives: no well-formed codelist has one
+-- what a reference to no line gives: no ratable codelist has one
 unfoldable pub noJet : Jet
 noJet = record { value = 0ℚ; first = λ a. 0ℚ; second = λ a b. 0ℚ }
 

@@ -9,7 +9,7 @@ use Rattle.exact.specs.Div.{floorDiv, ceilDiv, floorQuot, ceilQuot}
 use Rattle.exact.specs.Sqrt.{ceilSqrt, floorSqrt, rootBits}
 use Rattle.codelist.specs.declared.Op.{Op}
 use Rattle.codelist.specs.declared.Op.the-variants.{Add, Mul, MulC, Pow, Inv}
-use Rattle.codelist.specs.Codelist.{isBlank, blanksOnly, wellFormedOps, wellFormed}
+use Rattle.codelist.specs.Codelist.{wellFormedOps, ratable}
 use Rattle.codelist.specs.Load.{codelistOf}
 use Rattle.range.specs.declared.Range.{Range}
 use Rattle.range.specs.Limit.{fromTo, zeroRange, isValid, bothValid, kept}
@@ -136,7 +136,7 @@ ratingOf f = rateOf (codelistOf (f .factors) (map (λ o. record { op = o }) (f .
 pub all-right : map ratingOf figures ≡ map (λ f. f .gives) figures
 unfolding rateOf rateRanges firstBad limitsOf last linesOf runOps factorLines rowOf invertsZero within lineOf
     factorRow addRow addcRow mulcRow mulRow powRow invRow apart isSingle only
-    codelistOf wellFormed wellFormedOps blanksOnly isBlank
+    codelistOf ratable wellFormedOps
     isValid bothValid kept sumOf negOf timesOf endsProduct productOf endsInverse inverseOf hullOf
     chain upsWithin powAbove powBelow powAcrossEven powAcrossOdd powAcross powBySign powOf
     has sumOver sum validBelow endsProducts productsOf largestSquare squareSum squaresOf rootSum rootOf

@@ -7,7 +7,7 @@ use lib.Dec.{eqb}
 use lib.IntN.{ℤ}
 use lib.ListN.{length}
 use Rattle.codelist.specs.declared.Codelist.{Codelist}
-use Rattle.codelist.specs.Codelist.{wellFormed}
+use Rattle.codelist.specs.Codelist.{ratable}
 use Rattle.range.specs.declared.Range.{Range}
 use Rattle.range.specs.Limit.{fromTo, zeroRange, isValid}
 use Rattle.rules.specs.declared.Line.{Line}
@@ -95,9 +95,9 @@ unfoldable pub rateRanges : Codelist → List Range → ℕ → Rating
 rateRanges c rs zero = finished (c .factors) (linesOf c rs)
 rateRanges c rs (suc a) = refused (BadRange (suc a))
 
--- RATING. A codelist that no accepted load could have left counts as none.
+-- RATING. A codelist that is not ratable, as that of an empty engine, counts as none.
 unfoldable pub rateOf : Codelist → List ℤ → Rating
 rateOf c xs =
-    cond (wellFormed c)
+    cond (ratable c)
     (cond (eqb (length xs) (2 * c .factors)) (rateRanges c (pairs xs) (firstBad 1 (pairs xs))) (refused RangeCount))
     (refused NoCodelist)

@@ -11,7 +11,7 @@ use Rattle.codelist.specs.declared.Op.{Op}
 use Rattle.codelist.specs.declared.Op.the-variants.{Inv}
 use Rattle.codelist.specs.declared.Entry.{Entry}
 use Rattle.codelist.specs.declared.Codelist.{Codelist}
-use Rattle.codelist.specs.Codelist.{WellFormed}
+use Rattle.codelist.specs.Codelist.{Ratable}
 use Rattle.range.specs.declared.Range.{Range}
 use Rattle.range.specs.Sums.{at}
 use Rattle.rules.specs.declared.Line.{Line}
@@ -34,15 +34,15 @@ Bad r = (r .high <ℤ r .low) ⊎ EndBeyond r
 
 -- 10 and 8 do not apply, and a is the lowest factor with a bad range.
 pub record LowestBad (c : Codelist) (xs : List ℤ) (a : ℕ) : Type 0 where
-  pub codelist : WellFormed c
+  pub codelist : Ratable c
   pub count : length xs ≡ 2 * c .factors
   pub factor : (1 ≤ a) × (a ≤ c .factors)
   pub bad : Bad (rangeOf xs a)
   pub lower : (b : ℕ) → 1 ≤ b → b < a → ¬ (Bad (rangeOf xs b))
 
--- 10, 8 and 9 do not apply.
-pub record Ratable (c : Codelist) (xs : List ℤ) : Type 0 where
-  pub codelist : WellFormed c
+-- 10, 8 and 9 do not apply: the lines are run.
+pub record Runnable (c : Codelist) (xs : List ℤ) : Type 0 where
+  pub codelist : Ratable c
   pub count : length xs ≡ 2 * c .factors
   pub good : (a : ℕ) → 1 ≤ a → a ≤ c .factors → ¬ (Bad (rangeOf xs a))
 
@@ -79,15 +79,15 @@ pub record Passes (k : ℕ) (o : Op) (ls : List Line) : Type 0 where
 -- ════ 01'S TABLES: what each refusal is for ════
 
 abbrev pub RefusedFor : Codelist → List ℤ → Refusal → Type 0
--- 10 at 0: "no sheet on the desk"; a codelist that no accepted load could have left counts as none
-RefusedFor c xs NoCodelist = ¬ (WellFormed c)
+-- 10 at 0: "no sheet on the desk"; a codelist that is not ratable counts as none
+RefusedFor c xs NoCodelist = ¬ (Ratable c)
 -- 8 at 0: "not exactly two numbers per factor"
-RefusedFor c xs RangeCount = WellFormed c × (¬ (length xs ≡ 2 * c .factors))
+RefusedFor c xs RangeCount = Ratable c × (¬ (length xs ≡ 2 * c .factors))
 -- 9 at the factor
 RefusedFor c xs (BadRange a) = LowestBad c xs a
 -- 11 and 12 at the codelist line
-RefusedFor c xs (Divisor k) = Ratable c xs × StoppedAt (Inverts k) (operations c) (factorLines 0 (pairs xs))
-RefusedFor c xs (Overflow k) = Ratable c xs × StoppedAt (Passes k) (operations c) (factorLines 0 (pairs xs))
+RefusedFor c xs (Divisor k) = Runnable c xs × StoppedAt (Inverts k) (operations c) (factorLines 0 (pairs xs))
+RefusedFor c xs (Overflow k) = Runnable c xs × StoppedAt (Passes k) (operations c) (factorLines 0 (pairs xs))
 
 pub record RefusedExactly : Type 0 where
   pub where-listed : (c : Codelist) (xs : List ℤ) (r : Refusal) → (rateOf c xs ≡ refused r) ↔ RefusedFor c xs r

@@ -18,7 +18,7 @@ use Rattle.rules.specs.Table.{Row, factorRow, addRow, addcRow, mulcRow, 
 
 -- ════ a line ════
 
--- what a reference to no line gives: no well-formed codelist has one
+-- what a reference to no line gives: no ratable codelist has one
 unfoldable pub noLine : Line
 noLine = record { value = zeroRange; gradient = eight (λ a. zeroRange); support = none; nonlinear = none; spectrum = zeroRange }
 

@@ -9,9 +9,9 @@ use lib.IntN.{ℤ}
 use lib.ListN.{length}
 use Rattle.codelist.specs.declared.Codelist.{Codelist}
 use Rattle.codelist.specs.declared.Entry.{Entry}
-use Rattle.codelist.specs.Codelist.{wellFormed}
+use Rattle.codelist.specs.Codelist.{ratable}
 use Rattle.codelist.proofs.Laws.{both-true}
-use Rattle.codelist.proofs.WellFormed.{decides, taken}
+use Rattle.codelist.proofs.Ratable.{decides, taken}
 use Rattle.range.specs.declared.Range.{Range}
 use Rattle.range.specs.Arithmetic.{hullOf}
 use Rattle.range.specs.Limit.{zeroRange, isValid}
@@ -109,12 +109,12 @@ finished-valid n (stopped r) f e = absurd (let z : _≡_ {A = ℕ} 0 1 = cc e in
 
 rate-valid : (c : Codelist) (xs : List ℤ) → rateOf c xs .outcome ≡ rating.the-variants.Rated → Valid (rateOf c xs .limits)
 unfolding rateOf rateRanges linesOf
-rate-valid c xs e = go (wellFormed c) refl (eqb (length xs) (2 * c .factors)) (firstBad 1 (pairs xs)) e
+rate-valid c xs e = go (ratable c) refl (eqb (length xs) (2 * c .factors)) (firstBad 1 (pairs xs)) e
   where
-    some : wellFormed c ≡ true → 1 ≤ length (operations c)
+    some : ratable c ≡ true → 1 ≤ length (operations c)
     some w = let f = decides c .0 w in omega (arith, taken c f, f .some)
 
-    go : (w : Bool) → wellFormed c ≡ w → (b : Bool) (a : ℕ)
+    go : (w : Bool) → ratable c ≡ w → (b : Bool) (a : ℕ)
         → cond w (cond b (rateRanges c (pairs xs) a) (refused RangeCount)) (refused NoCodelist) .outcome ≡ rating.the-variants.Rated
         → Valid (cond w (cond b (rateRanges c (pairs xs) a) (refused RangeCount)) (refused NoCodelist) .limits)
     go false w b a h = absurd (let z : _≡_ {A = ℕ} 0 1 = cc h in omega arith)

@@ -5,7 +5,7 @@ ghost use Prim.Native.Nat.{_-_, _≤_, _<_};
 ghost use lib.ListN.{length, getD};
 ghost use Rattle.range.specs.Limit.{zeroRange};
 ghost use Rattle.range.specs.Arithmetic.{holdsZero};
-ghost use Rattle.codelist.specs.Codelist.{WellFormed};
+ghost use Rattle.codelist.specs.Codelist.{Ratable};
 ghost use Rattle.rules.specs.Run.{eachValid, linesOf};
 ghost use Rattle.rules.specs.Rate.{limitsOf, rated, refused, pairs, firstBad, finished, rateOf};
 use super::super::spectrum;
@@ -118,7 +118,7 @@ fn index(i: u8) -> usize
 
 // The lines of the factors, then of the operations, in order; 11 before 12.
 fn run(c: Codelist, xs: &[i64]) -> Rating
-    requires { ⌜ WellFormed c ⌝ }
+    requires { ⌜ Ratable c ⌝ }
     requires { ⌜ length (pairs (now xs)) ≡ c .factors ⌝ }
     requires { ⌜ eachValid (pairs (now xs)) ≡ true ⌝ }
     ensures { λ r. ⌜ r ≡ finished (c .factors) (linesOf c (pairs (now (xs .entry)))) ⌝ }
@@ -171,7 +171,7 @@ fn run(c: Codelist, xs: &[i64]) -> Rating
 pub fn answer(c: Codelist, xs: &[i64]) -> Rating
     ensures { λ r. ⌜ r ≡ rateOf c (now (xs .entry)) ⌝ }
 {
-    if !codelist::is_well_formed(c) {
+    if !codelist::is_ratable(c) {
         return refuse(Refusal::NoCodelist);
     }
     let n = c.factors;

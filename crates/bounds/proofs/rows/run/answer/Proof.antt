@@ -3,19 +3,19 @@ use borrow.Author.Needs.{needs}
 use mathlib.Core.Path.{_≡_, sym, _∙_}
 use mathlib.Core.Bool.{true}
 use borrow.Author.Tests.{not-true, not-false}
-use Rattle.codelist.specs.Codelist.{wellFormed}
-use Rattle.codelist.proofs.WellFormed.{decides}
+use Rattle.codelist.specs.Codelist.{ratable}
+use Rattle.codelist.proofs.Ratable.{decides}
 use Rattle.rules.specs.Rate.{pairs}
 use Rattle.bounds.proofs.Ranges.{pairs-count, none-bad}
 use Rattle.bounds.proofs.Answers.{no-codelist, bad-count, bad-range, all-lines}
 use Rattle.bounds.proofs.rows.run.answer.Statement.{statement}
 use Rattle.bounds.proofs.rows.run.answer.Tie as tie
 
-well : (t : tie.Else1) → wellFormed (t .before .before .args .c) ≡ true
-well t = sym (t .before .is-well-formed .ensures) ∙ not-false _ (t .if1 .left)
+well : (t : tie.Else1) → ratable (t .before .before .args .c) ≡ true
+well t = sym (t .before .is-ratable .ensures) ∙ not-false _ (t .if1 .left)
 
 returns : tie.Need-returns
-returns c = c .refuse .ensures ∙ no-codelist _ _ (sym (c .before .before .is-well-formed .ensures) ∙ not-true _ (c .before .if1 .taken))
+returns c = c .refuse .ensures ∙ no-codelist _ _ (sym (c .before .before .is-ratable .ensures) ∙ not-true _ (c .before .if1 .taken))
 
 returns-2 : tie.Need-returns-2
 returns-2 c = c .refuse2 .ensures ∙ bad-count _ _ (well (c .before .before)) (c .before .if2 .taken)

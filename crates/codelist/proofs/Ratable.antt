@@ -1,0 +1,101 @@
+-- The Boolean `ratable` is true exactly where a codelist is ratable, and one step of it, as the loop of the code takes it; what a ratable codelist
+-- has besides; and that every well formed one is ratable.
+use Prim.Native.Nat.{ℕ, _+_, _-_, _≤_, _<_}
+use mathlib.Core.Bool.{true, false, _&&_}
+use mathlib.Core.List.{List}
+use mathlib.Core.Path.{_≡_, sym, ap, subst, _∙_}
+use native.Mathlib.Numerals.{add-one}
+use native.Mathlib.Omega.{arith}
+use lib.Dec.{leb, eqb}
+use lib.ListN.{length, getD, take, drop, length-replicate, length-drop, drop-of-length-le}
+use lib.Seq.{drop-cons, getD-take, length-take-le}
+use borrow.Author.Tests.{le-leb, eq-eqb, leb-true, eqb-true}
+use Rattle.codelist.specs.declared.Codelist.{Codelist}
+use Rattle.codelist.specs.declared.Entry.{Entry}
+use Rattle.codelist.specs.Codelist.{blank, WellFormedOp, WellFormed, Ratable, wellFormedOp, wellFormedOps, inBounds, ratable}
+use Rattle.codelist.specs.Codelist.{DecidesRatable}
+use Rattle.codelist.proofs.Laws.{both-true, both-made}
+use Rattle.codelist.proofs.WellFormed.{ops-sound, ops-complete, each-of}
+
+pub bounded : (c : Codelist) → inBounds c ≡ true → c .factors + c .count ≤ 64
+bounded c p = leb-true (c .factors + c .count) 64
+    (both-true (leb 1 (c .factors) && leb (c .factors) 8 && leb 1 (c .count)) (leb (c .factors + c .count) 64) p .1)
+
+-- The operations from index k on, among the first `count` entries, as the loop tests them
+module _ (n count : ℕ) (xs : List Entry) (few : count ≤ length xs) (k : ℕ) where
+  ops-long : length (take count xs) ≡ count
+  ops-long = length-take-le count xs few
+
+  module _ (d : Entry) (h : k < count) where
+    ops-step : wellFormedOps (n + k) (drop k (take count xs))
+        ≡ (wellFormedOp (n + k) (getD xs k d .op) && wellFormedOps (n + (k + 1)) (drop (k + 1) (take count xs)))
+    unfolding wellFormedOps
+    ops-step =
+        let a : n + (k + 1) ≡ n + k + 1 = omega arith in
+        rw (drop-cons (take count xs) k d (omega (arith, ops-long)), getD-take count xs k d h, a, add-one k)
+
+    pub ops-fail : wellFormedOp (n + k) (getD xs k d .op) ≡ false → wellFormedOps (n + k) (drop k (take count xs)) ≡ false
+    ops-fail e = ops-step ∙ rw e
+
+    pub ops-pass : wellFormedOp (n + k) (getD xs k d .op) ≡ true
+        → wellFormedOps (n + (k + 1)) (drop (k + 1) (take count xs)) ≡ wellFormedOps (n + k) (drop k (take count xs))
+    ops-pass e = sym (ops-step ∙ rw e)
+
+  pub ops-end : count ≤ k → wellFormedOps (n + k) (drop k (take count xs)) ≡ true
+  unfolding wellFormedOps
+  ops-end h =
+      let past : length (take count xs) ≤ k = omega (arith, ops-long) in
+      rw (drop-of-length-le (take count xs) past)
+
+-- What a ratable codelist has besides: its operations by their index
+pub array : (c : Codelist) → Ratable c → length (c .ops) ≡ 64
+array c w = w .array
+
+pub taken : (c : Codelist) → Ratable c → length (take (c .count) (c .ops)) ≡ c .count
+taken c w = length-take-le (c .count) (c .ops) (omega (arith, w .few, w .array))
+
+-- Operation k, from 0, is codelist line factors + k + 1
+pub operation : (c : Codelist) → Ratable c → (d : Entry) (k : ℕ) → k < c .count → WellFormedOp (c .factors + k) (getD (c .ops) k d .op)
+operation c w d k h =
+    subst (λ (x : Entry). WellFormedOp (c .factors + k) (x .op)) (getD-take (c .count) (c .ops) k d h)
+    (each-of (c .factors) (take (c .count) (c .ops)) (w .each) d k (omega (arith, taken c w)))
+
+-- EVERY WELL FORMED CODELIST IS RATABLE: its operations and the blanks behind them fill the array
+pub well-formed-ratable : {c : Codelist} → WellFormed c → Ratable c
+well-formed-ratable {c} w =
+    let d : length (c .ops) - c .count ≡ 64 - c .count = sym (length-drop (c .count) (c .ops)) ∙ ap length (w .blanks)
+    ∙ length-replicate (64 - c .count) blank in
+    record { factors = w .factors; some = w .some; few = w .few; each = w .each; array = omega (arith, w .few, w .factors .0) }
+
+sound : (c : Codelist) → ratable c ≡ true → Ratable c
+unfolding ratable
+sound c p =
+    let a = both-true (inBounds c && eqb (length (c .ops)) 64) (wellFormedOps (c .factors) (take (c .count) (c .ops))) p in
+    let b = both-true (inBounds c) (eqb (length (c .ops)) 64) (a .0) in
+    let d = both-true (leb 1 (c .factors) && leb (c .factors) 8 && leb 1 (c .count)) (leb (c .factors + c .count) 64) (b .0) in
+    let f = both-true (leb 1 (c .factors) && leb (c .factors) 8) (leb 1 (c .count)) (d .0) in
+    let g = both-true (leb 1 (c .factors)) (leb (c .factors) 8) (f .0) in
+    record {
+      factors = (leb-true 1 (c .factors) (g .0), leb-true (c .factors) 8 (g .1));
+      some = leb-true 1 (c .count) (f .1);
+      few = leb-true (c .factors + c .count) 64 (d .1);
+      each = ops-sound (c .factors) (take (c .count) (c .ops)) (a .1);
+      array = eqb-true (length (c .ops)) 64 (b .1);
+    }
+
+complete : (c : Codelist) → Ratable c → ratable c ≡ true
+unfolding ratable
+complete c w =
+    both-made _ _
+    (both-made _ _
+    (both-made _ _
+    (both-made _ _
+    (both-made _ _ (le-leb 1 (c .factors) (w .factors .0)) (le-leb (c .factors) 8 (w .factors .1)))
+    (le-leb 1 (c .count) (w .some)))
+    (le-leb (c .factors + c .count) 64 (w .few)))
+    (eq-eqb (length (c .ops)) 64 (w .array)))
+    (ops-complete (c .factors) (take (c .count) (c .ops)) (w .each))
+
+-- `ratable` IS TRUE EXACTLY WHERE A CODELIST IS RATABLE
+pub decides : DecidesRatable
+decides c = (sound c, complete c)
