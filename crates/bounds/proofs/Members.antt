@@ -1,27 +1,25 @@
--- A gradient that is worked out for the members of a set: the loop that fills it, and that a rule which gives zero of zeros needs no test
--- of membership. Assumes nothing.
+-- Eight ranges, one for each factor, that are worked out for the members of a set: a rule which gives zero of zeros needs no test of
+-- membership. Assumes nothing.
 use mathlib.Core.Path.{_≡_, refl, sym, ap, subst, _∙_}
 use mathlib.Core.Bool.{Bool, true, false, _||_, cond, false≢true}
 use mathlib.Core.List.{List}
 use mathlib.Core.Logic.{_⊎_, inl, inr}
-use Prim.Native.Nat.{ℕ, zero, suc, _+_, _/_, _%_, _^_, _≤_, _<_, max}
+use Prim.Native.Nat.{ℕ, zero, suc, _/_, _%_, _^_, _≤_, _<_, max}
 use native.Mathlib.Nat as N
 use native.Mathlib.Omega.{arith}
-use borrow.Author.Count.{below-more}
 use borrow.Author.Tests.{ltb-true, ltb-false}
 use lib.Bits.{bitOr, or-step, or-shr}
 use lib.Dec.{eqb, ltb}
-use lib.ListN.{length, set, replicate, length-set, List·getD-eq-default}
-use lib.Seq.{ext-getD, getD-set-same, getD-set-other}
+use lib.ListN.{length, set, List·getD-eq-default}
+use lib.Seq.{ext-getD}
 use Rattle.range.specs.declared.Range.{Range}
 use Rattle.range.specs.Limit.{zeroRange}
 use Rattle.range.specs.Sums.{has, at}
-use Rattle.range.proofs.Scanning.{Scan, scan-start, scan-next, scan-has, scan-none}
 use Rattle.rules.specs.Sets.{_∪_}
 use Rattle.rules.specs.Table.{eight}
 use Rattle.bounds.specs.Terms.{memberOr, overMembers}
 
-below-or : (k a : ℕ) → (k < a) ⊎ (a ≤ k)
+pub below-or : (k a : ℕ) → (k < a) ⊎ (a ≤ k)
 below-or k a = go (ltb k a) refl
   where
     go : (t : Bool) → ltb k a ≡ t → (k < a) ⊎ (a ≤ k)
@@ -57,54 +55,6 @@ eight-same f g e = is-eight (eight f) g refl (λ k h. at-eight f k h ∙ e k h)
 -- eight ranges, written out
 pub eight-at : (g : List Range) → length g ≡ 8 → g ≡ eight (at g)
 eight-at g e = is-eight g (at g) e (λ k h. refl)
-
--- ---- the loop
-pub at-replicate : (n k : ℕ) → at (replicate n zeroRange) k ≡ zeroRange
-at-replicate zero k = refl
-at-replicate (suc n) zero = refl
-at-replicate (suc n) (suc k) = at-replicate n k
-
-module _ (s : ℕ) (f : ℕ → Range) where
-  -- the factors below a are worked out, and the others are zero still
-  pub record Filled (out : List Range) (rest a : ℕ) : Type 0 where
-    pub scan : Scan s rest a
-    pub long : length out ≡ 8
-    pub done : (k : ℕ) → k < a → at out k ≡ memberOr s f k
-    pub left : (k : ℕ) → a ≤ k → at out k ≡ zeroRange
-
-  pub filled-start : s < 256 → Filled (replicate 8 zeroRange) s 0
-  filled-start h = record { scan = scan-start s h; long = refl; done = λ k b. absurd (omega arith); left = λ k b. at-replicate 8 k }
-
-  module _ (out : List Range) (rest a : ℕ) (i : Filled out rest a) (h : a < 8) where
-    member : (t : Bool) → has s a ≡ t → cond t (f a) zeroRange ≡ memberOr s f a
-    member t e = ap (λ (b : Bool). cond b (f a) zeroRange) (sym e)
-
-    -- a member
-    pub filled-in : eqb (rest % 2) 1 ≡ true → (v : Range) → v ≡ f a → Filled (set out a v) (rest / 2) (a + 1)
-    filled-in e v q = record {
-      scan = scan-next s rest a (i .scan) h;
-      long = length-set out a v ∙ i .long;
-      done = below-more _ _
-          (λ k b. getD-set-other out a k v zeroRange (λ p. omega arith) ∙ i .done k b)
-          (getD-set-same out a v zeroRange (omega (arith, i .long)) ∙ q ∙ member true (scan-has s rest a (i .scan) ∙ e));
-      left = λ k b. getD-set-other out a k v zeroRange (λ p. omega arith) ∙ i .left k (omega arith);
-    }
-
-    -- no member
-    pub filled-out : eqb (rest % 2) 1 ≡ false → Filled out (rest / 2) (a + 1)
-    filled-out e = record {
-      scan = scan-next s rest a (i .scan) h;
-      long = i .long;
-      done = below-more _ _ (i .done) (i .left a (N.le-refl a) ∙ member false (scan-has s rest a (i .scan) ∙ e));
-      left = λ k b. i .left k (omega arith);
-    }
-
-  pub filled-end : (out : List Range) (rest a : ℕ) → Filled out rest a → rest ≡ 0 → out ≡ overMembers s f
-  filled-end out rest a i z = is-eight out (memberOr s f) (i .long) (λ k h. go k (below-or k a))
-    where
-      go : (k : ℕ) → (k < a) ⊎ (a ≤ k) → at out k ≡ memberOr s f k
-      go k (inl b) = i .done k b
-      go k (inr b) = i .left k b ∙ ap (λ (t : Bool). cond t (f k) zeroRange) (sym (scan-none s rest a (i .scan) z k b))
 
 -- ---- outside the set
 module _ (s : ℕ) (f : ℕ → Range) where

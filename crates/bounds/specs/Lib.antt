@@ -1,2 +1,3 @@
 -- What the private contracts of the crate speak of.
 pub mod Terms
+pub mod Table

@@ -1,204 +1,288 @@
-// The rows of 01's table, a function each: the line of an operation, over the lines that it refers to. A line with a range that is `OVER`
-// is handed on as one fixed line, whose value is `OVER`.
+// The rows of 01's table, a function each: the line k of the table, of the lines that an operation refers to. The answer is whether all its
+// ranges are valid.
 ghost use mathlib.Core.Path.{_≡_};
-ghost use lib.IntN.{natAbs};
+ghost use mathlib.Core.Bool.{true};
 ghost use Prim.Native.Nat.{_≤_, _<_};
+ghost use lib.IntN.{natAbs};
+ghost use Rattle.range.specs.Limit.{isValid};
 ghost use Rattle.range.specs.Arithmetic.{inverseOf};
 ghost use Rattle.rules.specs.Formula.{sticky};
+ghost use Rattle.rules.specs.Run.{eachValid};
 ghost use Rattle.rules.specs.Table.{factorRow, addRow, addcRow, mulcRow, mulRow, powRow, invRow, lineOf};
-ghost use Rattle.rules.specs.Run.{within};
-ghost use Rattle.bounds.specs.Terms.{settled, Fine, Made};
-use super::gradient;
-use super::gradient::Rule;
+ghost use Rattle.bounds.specs.Terms.{Fine};
+ghost use Rattle.bounds.specs.Table.{valueAt, lineAt, Refers, lineWith, Placed, Settled, Worked};
+use super::slopes;
+use super::slopes::Slopes;
 use super::spectrum;
+use super::table;
+use super::table::Head;
+use super::valid;
 use range::Range;
-use rules::Line;
 
-pub mod run; // rows/run.rt: the run over the lines of a codelist
-
-// What stands for a line with a range that is `OVER`.
-const OVER_LINE: Line = Line {
-    value: Range::OVER,
-    gradient: [Range::ZERO; 8],
-    support: 0,
-    nonlinear: 0,
-    spectrum: Range::ZERO,
-};
-
-// Whether every range of the line is valid.
-fn is_within(l: Line) -> bool
-    ensures { λ r. ⌜ r ≡ within l ⌝ }
+// Writes the line k, if all its ranges are valid, and tells whether they are.
+fn settle(t: &mut [i32; 1280], s: &mut [u8; 128], k: usize, h: Head, g: Slopes) -> bool
+    requires { ⌜ k < 64 ⌝ }
+    requires { ⌜ g .valid ≡ eachValid (g .gradient) ⌝ }
+    ensures { λ r. ⌜ Settled (lineWith h g) (now (t .entry)) (now (s .entry)) k r (now (t .exit)) (now (s .exit)) ⌝ }
 {
-    let g = l.gradient;
-    l.value.valid() & (gradient::each_valid(g) & l.spectrum.valid())
-}
-
-// The line itself, if it is within.
-fn settle(l: Line) -> Line
-    ensures { λ r. ⌜ r ≡ settled l ⌝ }
-{
-    if is_within(l) { l } else { OVER_LINE }
-}
-
-// 01's row `factor i`; i is counted from 0.
-fn factor_line(i: usize, r: Range) -> Line
-    requires { ⌜ i < 8 ⌝ }
-    ensures { λ l. ⌜ l ≡ lineOf (factorRow i r) ⌝ }
-{
-    let mut g = [Range::ZERO; 8];
-    g[i] = Range::ONE;
-    Line {
-        value: r,
-        gradient: g,
-        support: 1u8 << i,
-        nonlinear: 0,
-        spectrum: Range::ZERO,
+    let v = h.value;
+    let e = h.spectrum;
+    if !(v.valid() & (g.valid & e.valid())) {
+        return false;
     }
+    table::sized(t);
+    table::sized_sets(s);
+    table::put_head(t, s, k, h);
+    let slopes = g.gradient;
+    slopes::put(t, k, slopes);
+    true
+}
+
+// 01's row `factor a`; a is counted from 0, and its line is the line a.
+pub(crate) fn factor(t: &mut [i32; 1280], s: &mut [u8; 128], a: usize, r: Range)
+    requires { ⌜ a < 8 ⌝ }
+    requires { ⌜ isValid r ≡ true ⌝ }
+    ensures { λ _. ⌜ Placed (lineOf (factorRow a r)) (now (t .entry)) (now (s .entry)) a (now (t .exit)) (now (s .exit)) ⌝ }
+{
+    let zero = Range::ZERO;
+    let mut g = [Range::ZERO; 8];
+    g[a] = Range::ONE;
+    settle(
+        t,
+        s,
+        a,
+        Head {
+            value: r,
+            spectrum: zero,
+            support: 1u8 << a,
+            nonlinear: 0,
+        },
+        Slopes {
+            gradient: g,
+            valid: true,
+        },
+    );
 }
 
 // 01's row `add`.
-fn add_line(x: Line, y: Line) -> Line
-    requires { ⌜ Fine x ⌝ }
-    requires { ⌜ Fine y ⌝ }
-    ensures { λ r. ⌜ Made (addRow x y) r ⌝ }
+pub(crate) fn add(t: &mut [i32; 1280], s: &mut [u8; 128], i: usize, j: usize, k: usize) -> bool
+    requires { ⌜ k < 64 ⌝ }
+    requires { ⌜ Refers (now t) (now s) i k ⌝ }
+    requires { ⌜ Refers (now t) (now s) j k ⌝ }
+    ensures { λ r. ⌜ Worked
+        (addRow (lineAt (now (t .entry)) (now (s .entry)) i) (lineAt (now (t .entry)) (now (s .entry)) j))
+        (now (t .entry)) (now (s .entry)) k r (now (t .exit)) (now (s .exit)) ⌝ }
 {
-    let g = x.gradient;
-    let h = y.gradient;
-    let s = x.support | y.support;
-    settle(Line {
-        value: x.value.sum(y.value),
-        gradient: gradient::of_row(Rule::Sum, s, g, h),
-        support: s,
-        nonlinear: x.nonlinear | y.nonlinear,
-        spectrum: spectrum::of_sum(x.spectrum, x.nonlinear, y.spectrum, y.nonlinear),
-    })
+    let p = table::support(s, i) | table::support(s, j);
+    let b = table::nonlinear(s, i);
+    let c = table::nonlinear(s, j);
+    let v = valid::sum(table::value(t, i), table::value(t, j));
+    let e = spectrum::of_sum(table::spectrum(t, i), b, table::spectrum(t, j), c);
+    let g = slopes::of_sum(t, p, i, j);
+    settle(
+        t,
+        s,
+        k,
+        Head {
+            value: v,
+            spectrum: e,
+            support: p,
+            nonlinear: b | c,
+        },
+        g,
+    )
 }
 
 // 01's row `addc`.
-fn addc_line(x: Line, c: i64) -> Line
-    requires { ⌜ Fine x ⌝ }
-    ensures { λ r. ⌜ Made (addcRow x c) r ⌝ }
+pub(crate) fn addc(t: &mut [i32; 1280], s: &mut [u8; 128], i: usize, c: i64, k: usize) -> bool
+    requires { ⌜ k < 64 ⌝ }
+    requires { ⌜ Refers (now t) (now s) i k ⌝ }
+    requires { ⌜ natAbs c ≤ 2000000000 ⌝ }
+    ensures { λ r. ⌜ Worked
+        (addcRow (lineAt (now (t .entry)) (now (s .entry)) i) c)
+        (now (t .entry)) (now (s .entry)) k r (now (t .exit)) (now (s .exit)) ⌝ }
 {
-    let g = x.gradient;
-    let e = x.spectrum;
-    settle(Line {
-        value: x.value.sum(Range::new(c, c)),
-        gradient: g,
-        support: x.support,
-        nonlinear: x.nonlinear,
-        spectrum: e,
-    })
+    let p = table::support(s, i);
+    let b = table::nonlinear(s, i);
+    let v = valid::sum(table::value(t, i), Range::new(c, c));
+    let e = table::spectrum(t, i);
+    let g = table::gradient(t, i);
+    settle(
+        t,
+        s,
+        k,
+        Head {
+            value: v,
+            spectrum: e,
+            support: p,
+            nonlinear: b,
+        },
+        Slopes {
+            gradient: g,
+            valid: true,
+        },
+    )
 }
 
 // 01's row `mulc`.
-fn mulc_line(x: Line, c: i64) -> Line
-    requires { ⌜ Fine x ⌝ }
+pub(crate) fn mulc(t: &mut [i32; 1280], s: &mut [u8; 128], i: usize, c: i64, k: usize) -> bool
+    requires { ⌜ k < 64 ⌝ }
+    requires { ⌜ Refers (now t) (now s) i k ⌝ }
     requires { ⌜ natAbs c ≤ 2000000000 ⌝ }
-    ensures { λ r. ⌜ Made (mulcRow x c) r ⌝ }
+    ensures { λ r. ⌜ Worked
+        (mulcRow (lineAt (now (t .entry)) (now (s .entry)) i) c)
+        (now (t .entry)) (now (s .entry)) k r (now (t .exit)) (now (s .exit)) ⌝ }
 {
-    let g = x.gradient;
-    let k = Range::new(c, c);
-    settle(Line {
-        value: k.product(x.value),
-        gradient: gradient::of_row(Rule::Scaled(k), x.support, g, g),
-        support: x.support,
-        nonlinear: x.nonlinear,
-        spectrum: k.product(x.spectrum),
-    })
+    let p = table::support(s, i);
+    let b = table::nonlinear(s, i);
+    let q = Range::new(c, c);
+    let v = valid::product(q, table::value(t, i));
+    let e = valid::product(q, table::spectrum(t, i));
+    let g = slopes::scaled(t, p, i, q);
+    settle(
+        t,
+        s,
+        k,
+        Head {
+            value: v,
+            spectrum: e,
+            support: p,
+            nonlinear: b,
+        },
+        g,
+    )
 }
 
 // The E of 01's row `mul`.
-fn product_spectrum(x: Line, y: Line) -> Range
-    ensures { λ r. ⌜ r ≡ sticky (mulRow x y .spectrum) ⌝ }
+fn product_spectrum(t: &[i32; 1280], s: &[u8; 128], i: usize, j: usize) -> Range
+    requires { ⌜ i < 64 ⌝ }
+    requires { ⌜ j < 64 ⌝ }
+    requires { ⌜ Fine (lineAt (now t) (now s) i) ⌝ }
+    requires { ⌜ Fine (lineAt (now t) (now s) j) ⌝ }
+    ensures { λ r. ⌜ r ≡ sticky
+        (mulRow (lineAt (now (t .entry)) (now (s .entry)) i) (lineAt (now (t .entry)) (now (s .entry)) j) .spectrum) ⌝ }
 {
-    let g = x.gradient;
-    let h = y.gradient;
-    let s = x.support | y.support;
-    let e = y.value.product(x.spectrum);
-    let f = x.value.product(y.spectrum);
-    let own = spectrum::of_sum(e, x.nonlinear, f, y.nonlinear);
-    spectrum::of_cross(s, g, h).sum(spectrum::extended(own, x.nonlinear | y.nonlinear, s))
+    let p = table::support(s, i) | table::support(s, j);
+    let b = table::nonlinear(s, i);
+    let c = table::nonlinear(s, j);
+    let e = valid::product(table::value(t, j), table::spectrum(t, i));
+    let f = valid::product(table::value(t, i), table::spectrum(t, j));
+    let own = spectrum::of_sum(e, b, f, c);
+    spectrum::of_cross(t, p, i, j).sum(spectrum::extended(own, b | c, p))
 }
 
 // 01's row `mul`.
-fn mul_line(x: Line, y: Line) -> Line
-    requires { ⌜ Fine x ⌝ }
-    requires { ⌜ Fine y ⌝ }
-    ensures { λ r. ⌜ Made (mulRow x y) r ⌝ }
+pub(crate) fn mul(t: &mut [i32; 1280], s: &mut [u8; 128], i: usize, j: usize, k: usize) -> bool
+    requires { ⌜ k < 64 ⌝ }
+    requires { ⌜ Refers (now t) (now s) i k ⌝ }
+    requires { ⌜ Refers (now t) (now s) j k ⌝ }
+    ensures { λ r. ⌜ Worked
+        (mulRow (lineAt (now (t .entry)) (now (s .entry)) i) (lineAt (now (t .entry)) (now (s .entry)) j))
+        (now (t .entry)) (now (s .entry)) k r (now (t .exit)) (now (s .exit)) ⌝ }
 {
-    let g = x.gradient;
-    let h = y.gradient;
-    let v = x.value;
-    let w = y.value;
-    let s = x.support | y.support;
-    settle(Line {
-        value: v.product(w),
-        gradient: gradient::of_row(Rule::Product(v, w), s, g, h),
-        support: s,
-        nonlinear: s,
-        spectrum: product_spectrum(x, y),
-    })
+    let p = table::support(s, i) | table::support(s, j);
+    let v = table::value(t, i);
+    let w = table::value(t, j);
+    let u = valid::product(v, w);
+    let e = product_spectrum(t, s, i, j);
+    let g = slopes::of_product(t, p, i, j, v, w);
+    settle(
+        t,
+        s,
+        k,
+        Head {
+            value: u,
+            spectrum: e,
+            support: p,
+            nonlinear: p,
+        },
+        g,
+    )
 }
 
 // The E of 01's row `pow`.
-fn power_spectrum(x: Line, m: u8) -> Range
+fn power_spectrum(t: &[i32; 1280], s: &[u8; 128], i: usize, m: u8) -> Range
+    requires { ⌜ i < 64 ⌝ }
     requires { ⌜ 2 ≤ m ⌝ }
-    ensures { λ r. ⌜ r ≡ sticky (powRow x m .spectrum) ⌝ }
+    ensures { λ r. ⌜ r ≡ sticky (powRow (lineAt (now (t .entry)) (now (s .entry)) i) m .spectrum) ⌝ }
 {
-    let g = x.gradient;
-    let squares = spectrum::of_square(x.support, g).times(m - 1);
-    let own = x.value
-        .product(spectrum::extended(x.spectrum, x.nonlinear, x.support));
-    x.value.power(m - 2).product(squares.sum(own)).times(m)
+    let p = table::support(s, i);
+    let x = table::value(t, i);
+    let squares = spectrum::of_square(t, p, i).times(m - 1);
+    let own = x.product(spectrum::extended(table::spectrum(t, i), table::nonlinear(s, i), p));
+    x.power(m - 2).product(squares.sum(own)).times(m)
 }
 
 // 01's row `pow`. Every slope is a multiple of V^(m−1), so that an `OVER` there is one in the line, whatever the support.
-fn pow_line(x: Line, m: u8) -> Line
-    requires { ⌜ Fine x ⌝ }
+pub(crate) fn pow(t: &mut [i32; 1280], s: &mut [u8; 128], i: usize, m: u8, k: usize) -> bool
+    requires { ⌜ k < 64 ⌝ }
+    requires { ⌜ Refers (now t) (now s) i k ⌝ }
     requires { ⌜ 2 ≤ m ⌝ }
-    ensures { λ r. ⌜ Made (powRow x m) r ⌝ }
+    ensures { λ r. ⌜ Worked
+        (powRow (lineAt (now (t .entry)) (now (s .entry)) i) m)
+        (now (t .entry)) (now (s .entry)) k r (now (t .exit)) (now (s .exit)) ⌝ }
 {
-    let g = x.gradient;
-    let p = x.value.power(m - 1);
-    if !p.valid() {
-        return OVER_LINE;
+    let p = table::support(s, i);
+    let x = table::value(t, i);
+    let q = x.power(m - 1);
+    if !q.valid() {
+        return false;
     }
-    settle(Line {
-        value: x.value.power(m),
-        gradient: gradient::of_row(Rule::Power(p, m), x.support, g, g),
-        support: x.support,
-        nonlinear: x.support,
-        spectrum: power_spectrum(x, m),
-    })
+    let v = x.power(m);
+    let e = power_spectrum(t, s, i, m);
+    let g = slopes::raised(t, p, i, q, m);
+    settle(
+        t,
+        s,
+        k,
+        Head {
+            value: v,
+            spectrum: e,
+            support: p,
+            nonlinear: p,
+        },
+        g,
+    )
 }
 
 // The E of 01's row `inv`; v is the line's own value.
-fn inverse_spectrum(x: Line, v: Range) -> Range
-    requires { ⌜ v ≡ inverseOf (x .value) ⌝ }
-    ensures { λ r. ⌜ r ≡ sticky (invRow x .spectrum) ⌝ }
+fn inverse_spectrum(t: &[i32; 1280], s: &[u8; 128], i: usize, v: Range) -> Range
+    requires { ⌜ i < 64 ⌝ }
+    requires { ⌜ v ≡ inverseOf (valueAt (now t) i) ⌝ }
+    ensures { λ r. ⌜ r ≡ sticky (invRow (lineAt (now (t .entry)) (now (s .entry)) i) .spectrum) ⌝ }
 {
-    let g = x.gradient;
-    let squares = v.product(spectrum::of_square(x.support, g)).times(2);
-    let own = spectrum::extended(x.spectrum, x.nonlinear, x.support).negated();
+    let p = table::support(s, i);
+    let squares = v.product(spectrum::of_square(t, p, i)).times(2);
+    let own = spectrum::extended(table::spectrum(t, i), table::nonlinear(s, i), p).negated();
     v.power(2).product(squares.sum(own))
 }
 
 // 01's row `inv`. Every slope is a multiple of V_k², as in `pow`.
-fn inv_line(x: Line) -> Line
-    requires { ⌜ Fine x ⌝ }
-    ensures { λ r. ⌜ Made (invRow x) r ⌝ }
+pub(crate) fn inv(t: &mut [i32; 1280], s: &mut [u8; 128], i: usize, k: usize) -> bool
+    requires { ⌜ k < 64 ⌝ }
+    requires { ⌜ Refers (now t) (now s) i k ⌝ }
+    ensures { λ r. ⌜ Worked
+        (invRow (lineAt (now (t .entry)) (now (s .entry)) i))
+        (now (t .entry)) (now (s .entry)) k r (now (t .exit)) (now (s .exit)) ⌝ }
 {
-    let g = x.gradient;
-    let v = x.value.inverse();
-    let p = v.power(2);
-    if !p.valid() {
-        return OVER_LINE;
+    let p = table::support(s, i);
+    let v = table::value(t, i).inverse();
+    let q = v.power(2);
+    if !q.valid() {
+        return false;
     }
-    settle(Line {
-        value: v,
-        gradient: gradient::of_row(Rule::Inverse(p), x.support, g, g),
-        support: x.support,
-        nonlinear: x.support,
-        spectrum: inverse_spectrum(x, v),
-    })
+    let e = inverse_spectrum(t, s, i, v);
+    let g = slopes::scaled(t, p, i, q.negated());
+    settle(
+        t,
+        s,
+        k,
+        Head {
+            value: v,
+            spectrum: e,
+            support: p,
+            nonlinear: p,
+        },
+        g,
+    )
 }

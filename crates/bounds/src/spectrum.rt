@@ -1,8 +1,11 @@
 // Sets of factors as masks, and spectra over them: bounds of the eigenvalues of a Hessian that is zero outside a set.
 ghost use mathlib.Core.Path.{_≡_};
+ghost use Prim.Native.Nat.{_+_, _*_, _<_};
 ghost use Rattle.range.specs.Sums.{at};
 ghost use Rattle.rules.specs.Sets.{apart, isSingle, only};
 ghost use Rattle.bounds.specs.Terms.{extendedOf, sumSpectrumOf, squareSpectrumOf, crossSpectrumOf};
+ghost use Rattle.bounds.specs.Table.{gradientAt};
+use super::table;
 use range::Range;
 
 // Both have members, and none in common.
@@ -18,23 +21,36 @@ fn is_single(s: u8) -> bool
     u8::count_ones(s) == 1
 }
 
-// The range of the only factor in the set, if there is one.
-fn only_of(s: u8, g: [Range; 8]) -> Range
-    ensures { λ r. ⌜ r ≡ at g (only s) ⌝ }
+// The slope of the line i for the only factor in the set, if there is one.
+fn only_of(t: &[i32; 1280], set: u8, i: usize) -> Range
+    requires { ⌜ i < 64 ⌝ }
+    ensures { λ r. ⌜ r ≡ at (gradientAt (now (t .entry)) i) (only set) ⌝ }
 {
-    let a = u8::trailing_zeros(s) as usize;
-    if a < 8 { g[a] } else { Range::ZERO }
+    let a = u8::trailing_zeros(set) as usize;
+    if a < 8 {
+        table::slope(t, i, a)
+    } else {
+        Range::ZERO
+    }
+}
+
+// Where the slopes of the line i begin in the table.
+fn slopes_of(i: usize) -> u16
+    requires { ⌜ i < 64 ⌝ }
+    ensures { λ r. ⌜ r ≡ 20 * i + 4 ⌝ }
+{
+    (20 * i + 4) as u16
 }
 
 // The spectrum e over the set b, extended to the set c: 01's lift.
-pub fn extended(e: Range, b: u8, c: u8) -> Range
+pub(crate) fn extended(e: Range, b: u8, c: u8) -> Range
     ensures { λ r. ⌜ r ≡ extendedOf e b c ⌝ }
 {
     if b == c { e } else { e.hull(Range::ZERO) }
 }
 
 // The spectrum of a sum of e over b and f over c: 01's join.
-pub fn of_sum(e: Range, b: u8, f: Range, c: u8) -> Range
+pub(crate) fn of_sum(e: Range, b: u8, f: Range, c: u8) -> Range
     ensures { λ r. ⌜ r ≡ sumSpectrumOf e b f c ⌝ }
 {
     if are_apart(b, c) {
@@ -44,24 +60,27 @@ pub fn of_sum(e: Range, b: u8, f: Range, c: u8) -> Range
     }
 }
 
-// The spectrum of gg' over the set s: 01's Sq.
-pub fn of_square(s: u8, g: [Range; 8]) -> Range
-    ensures { λ r. ⌜ r ≡ squareSpectrumOf s g ⌝ }
+// The spectrum of gg' over the set, g the slopes of the line i: 01's Sq.
+pub(crate) fn of_square(t: &[i32; 1280], set: u8, i: usize) -> Range
+    requires { ⌜ i < 64 ⌝ }
+    ensures { λ r. ⌜ r ≡ squareSpectrumOf set (gradientAt (now (t .entry)) i) ⌝ }
 {
-    if is_single(s) {
-        only_of(s, g).power(2)
+    if is_single(set) {
+        only_of(t, set, i).power(2)
     } else {
-        Range::sum_of_squares(s, g)
+        Range::sum_of_squares(set, t, slopes_of(i))
     }
 }
 
-// The spectrum of gh' + hg' over the set s: 01's Cross.
-pub fn of_cross(s: u8, g: [Range; 8], h: [Range; 8]) -> Range
-    ensures { λ r. ⌜ r ≡ crossSpectrumOf s g h ⌝ }
+// The spectrum of gh' + hg' over the set, g the slopes of the line i and h those of the line j: 01's Cross.
+pub(crate) fn of_cross(t: &[i32; 1280], set: u8, i: usize, j: usize) -> Range
+    requires { ⌜ i < 64 ⌝ }
+    requires { ⌜ j < 64 ⌝ }
+    ensures { λ r. ⌜ r ≡ crossSpectrumOf set (gradientAt (now (t .entry)) i) (gradientAt (now (t .entry)) j) ⌝ }
 {
-    if is_single(s) {
-        only_of(s, g).product(only_of(s, h)).times(2)
+    if is_single(set) {
+        only_of(t, set, i).product(only_of(t, set, j)).times(2)
     } else {
-        Range::sum_of_products(s, g, h).sum(Range::root_of_squares(s, g, h))
+        Range::cross(set, t, slopes_of(i), slopes_of(j))
     }
 }

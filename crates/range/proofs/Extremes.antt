@@ -1,10 +1,14 @@
 -- The lesser and the greater of two numbers and of four. Assumes nothing.
-use lib.IntN.{ℤ, _*ℤ_}
+use mathlib.Core.Path.{_≡_, ap₂}
+use mathlib.Core.Bool.{true}
+use lib.IntN.{ℤ, pos, _*ℤ_}
 use lib.Signed.{leZ, _≤ℤ_, leZ-yes, ≤ℤ-refl}
-use Rattle.exact.specs.Int.{leZ-no, <ℤ→≤ℤ, ≤ℤ-trans}
+use Rattle.algebra.proofs.Ordered as Ord
+use Rattle.exact.specs.Int.{ℤ-ordered, leZ-no, <ℤ→≤ℤ, ≤ℤ-trans, ≤ℤ-antisym}
 use Rattle.range.specs.declared.Range.{Range}
-use Rattle.range.specs.Arithmetic.{lesserOf, greaterOf, leastOf, greatestOf, leastProduct, greatestProduct}
-use Rattle.range.proofs.Valid.{by-test}
+use Rattle.range.specs.Limit.{fromTo, isValid}
+use Rattle.range.specs.Arithmetic.{lesserOf, greaterOf, leastOf, greatestOf, leastProduct, greatestProduct, spreadOf}
+use Rattle.range.proofs.Valid.{true-T, by-test, ends-of}
 
 module _ (a b : ℤ) where
   -- a property of both is one of the lesser and of the greater
@@ -69,3 +73,25 @@ module _ (a b : Range) where
 
     pub greatest-product : P (greatestProduct a b)
     greatest-product = greatest-any (a .low *ℤ b .low) (a .low *ℤ b .high) (a .high *ℤ b .low) (a .high *ℤ b .high) P ll lh hl hh
+
+-- of two ranges that are not below 0: the products of the low ends and of the high ends
+module _ (a b : Range) (v : isValid a ≡ true) (w : isValid b ≡ true)
+    (p : leZ (pos 0) (a .low) ≡ true) (q : leZ (pos 0) (b .low) ≡ true) where
+  pub spread-above : spreadOf a b ≡ fromTo (a .low *ℤ b .low) (a .high *ℤ b .high)
+  spread-above =
+      let la = leZ-yes (true-T p) in
+      let lb = leZ-yes (true-T q) in
+      let oa = ends-of a (true-T v) .order in
+      let ob = ends-of b (true-T w) .order in
+      let ll = a .low *ℤ b .low in
+      let hh = a .high *ℤ b .high in
+      let e = end-products a b in
+      ap₂ fromTo
+      (≤ℤ-antisym (e .low-1)
+      (least-product a b (λ z. ll ≤ℤ z) (≤ℤ-refl ll)
+      (Ord.mul-le-left ℤ-ordered la ob) (Ord.mul-le-right ℤ-ordered lb oa) (Ord.mul-mono ℤ-ordered la oa lb ob)))
+      (≤ℤ-antisym
+      (greatest-product a b (λ z. z ≤ℤ hh)
+      (Ord.mul-mono ℤ-ordered la oa lb ob) (Ord.mul-le-right ℤ-ordered (≤ℤ-trans lb ob) oa) (Ord.mul-le-left ℤ-ordered (≤ℤ-trans la oa) ob)
+      (≤ℤ-refl hh))
+      (e .high-4))

@@ -8,14 +8,14 @@ use native.Mathlib.Nat.{mul-le-mul}
 use lib.IntN.{ℤ, pos, negsuc, natAbs, negℤ, _+ℤ_, _*ℤ_, +ℤ-idl}
 use lib.Dec.{T}
 use lib.Signed.{leZ, nonNeg, _≤ℤ_}
-use mir.Syntax.{w8, w64}
+use mir.Syntax.{w8, w32, w64}
 use mir.Val.{Fits, SFits, toZ, ofZ}
 use mir.ValLaws.{toZ-ofZ, toZ-pos}
 use Rattle.exact.specs.Int.{ints, neg-dif, neg-abs, add-abs, mul-abs}
 use Rattle.exact.proofs.Machine.{fits-abs}
 use Rattle.range.specs.declared.Range.{Range}
 use Rattle.range.specs.Limit.{least, most, fromTo, over, isValid, bothValid, kept}
-use Rattle.range.specs.Arithmetic.{endsNeg, negOf, endsHull, hullOf}
+use Rattle.range.specs.Arithmetic.{sumOf, endsNeg, negOf, endsHull, hullOf}
 use Rattle.range.specs.Steps.{Small}
 use Rattle.range.proofs.Valid.{T-true, true-T, and-left, and-right, ends-of, valid-of, both-left}
 use Rattle.range.proofs.Valid.{both-right, kept-is, sticky₁-is, sticky₂-is, not-true, and-false, over-invalid}
@@ -112,6 +112,10 @@ pub hullOf-is : (a b : Range) → isValid a ≡ true → isValid b ≡ true → 
 unfolding hullOf
 hullOf-is a b v w = sticky₂-is endsHull a b (true-T v) (true-T w) (true-T (hull-valid a b v w))
 
+pub over-sumOf : (a : Range) → sumOf over a ≡ over
+unfolding sumOf bothValid isValid
+over-sumOf a = refl
+
 pub over-hullOf : (a : Range) → hullOf over a ≡ over
 unfolding hullOf bothValid isValid
 over-hullOf a = refl
@@ -131,6 +135,21 @@ byte-read k h = toZ-pos w64 k (omega arith)
 pub nonneg-cast : (z : ℤ) → leZ (pos 0) z ≡ true → SFits w64 z → T (nonNeg (toZ w64 (ofZ w64 z))) × Fits w64 (natAbs (toZ w64 (ofZ w64 z)))
 nonneg-cast (pos n) p f = rw (toZ-ofZ w64 (pos n) f) (tt, omega arith)
 nonneg-cast (negsuc n) p f = let z : _≡_ {A = ℕ} 0 1 = cc in let g : ⊥ = omega arith in absurd g
+
+-- ---- numbers of 32 bits: an end of a valid range is one
+module _ (z : ℤ) (f : SFits w32 z) where
+  wide : SFits w64 z
+  wide = record { sfits = omega (arith, f .sfits) }
+
+  pub widened : SFits w64 (toZ w32 (ofZ w32 z))
+  widened = rw (toZ-ofZ w32 z f) wide
+
+  pub read-widened : toZ w64 (ofZ w64 (toZ w32 (ofZ w32 z))) ≡ z
+  read-widened = rw (toZ-ofZ w32 z f) (toZ-ofZ w64 z wide)
+
+pub fits-narrow : (z : ℤ) → Within z → SFits w32 z
+fits-narrow (pos n) h = record { sfits = omega arith }
+fits-narrow (negsuc n) h = record { sfits = omega arith }
 
 -- ---- a range made of two numbers that were computed: their bits are read back
 pub ends : (l h : ℤ) {x y : ℤ} → SFits w64 l → SFits w64 h → l ≡ x → h ≡ y → fromTo (toZ w64 (ofZ w64 l)) (toZ w64 (ofZ w64 h)) ≡ fromTo x y

@@ -33,9 +33,6 @@ invAbove a = kept (endsOver (pos 100000000) (fromTo (a .high) (a .low)))
 abbrev pub invBelow : Range → Range
 invBelow a = kept (endsOver (negsuc 99999999) (fromTo (negℤ (a .high)) (negℤ (a .low))))
 
-abbrev pub squaresOfEnds : Range → Range
-squaresOfEnds r = fromTo (r .low *ℤ r .low) (r .high *ℤ r .high)
-
 -- from 0 on
 abbrev pub upTo : ℤ → Range
 upTo x = fromTo (pos 0) x

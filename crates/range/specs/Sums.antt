@@ -1,8 +1,8 @@
 -- Sums over the factors of a set: 01, "Range arithmetic" ("A sum over the factors of a set is one step, so only its total counts, and no
 -- product or square summed in it"), for the sums in Sq and Cross of "Sets and bends".
 use mathlib.Core.Bool.{Bool, true, _&&_, _||_, not, cond}
-use mathlib.Core.List.{List}
-use Prim.Native.Nat.{ℕ, zero, suc, _*_, _/_, _%_, _^_}
+use mathlib.Core.List.{List, [], _∷_}
+use Prim.Native.Nat.{ℕ, zero, suc, _+_, _*_, _/_, _%_, _^_}
 use lib.Dec.{eqb}
 use lib.IntN.{ℤ, pos, negℤ, _*ℤ_, natAbs}
 use lib.ListN.{getD}
@@ -26,6 +26,23 @@ sumOver 𝓡 s f = sum 𝓡 8 (λ a. cond (has s a) (f a) (𝓡 .𝟘))
 -- A list of ranges, one for each factor.
 abbrev pub at : List Range → ℕ → Range
 at g a = getD g a zeroRange
+
+-- The range that two numbers of a list make, from the number m on; past the list's end they are 0.
+abbrev pub pairAt : List ℤ → ℕ → Range
+pairAt t m = fromTo (getD t m (pos 0)) (getD t (m + 1) (pos 0))
+
+-- Eight ranges, one for each factor, from the number i on.
+abbrev pub rangesFrom : List ℤ → ℕ → List Range
+rangesFrom t i =
+    pairAt t i
+    ∷ pairAt t (i + 2)
+    ∷ pairAt t (i + 4)
+    ∷ pairAt t (i + 6)
+    ∷ pairAt t (i + 8)
+    ∷ pairAt t (i + 10)
+    ∷ pairAt t (i + 12)
+    ∷ pairAt t (i + 14)
+    ∷ []
 
 -- Those of the factors in s are all valid: of the first n factors, and of all.
 unfoldable pub validBelow : ℕ → ℕ → List Range → Bool

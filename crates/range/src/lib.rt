@@ -2,10 +2,10 @@
 // Every operation is total. A result with an end beyond the limit is `OVER`, which is no range, and an operand that is no valid range gives
 // `OVER` too: so a caller tests the last of many operations, and not each.
 ghost use mathlib.Core.Path.{_≡_};
-ghost use mathlib.Core.Bool.{true};
+ghost use mathlib.Core.Bool.{true, _&&_};
 ghost use Prim.Native.Nat.{_≤_};
-ghost use lib.IntN.{pos, natAbs};
-ghost use lib.Signed.{ltZ};
+ghost use lib.IntN.{pos, natAbs, _*ℤ_};
+ghost use lib.Signed.{leZ, ltZ};
 ghost use Rattle.exact.specs.Div.{floorDiv, ceilDiv};
 ghost use Rattle.range.specs.Limit.{fromTo, isValid, bothValid, kept};
 ghost use Rattle.range.specs.Arithmetic.{lesserOf, greaterOf, endsSum, sumOf, endsNeg, negOf, timesOf};
@@ -87,7 +87,7 @@ impl Range {
     }
 
     // This range, if it is one.
-    fn kept(self) -> Range
+    pub fn kept(self) -> Range
         ensures { λ r. ⌜ r ≡ kept self ⌝ }
     {
         if self.valid() { self } else { Range::OVER }
@@ -158,7 +158,7 @@ impl Range {
     }
 
     // The two ends in order.
-    fn sorted(self) -> Range
+    pub fn sorted(self) -> Range
         ensures { λ r. ⌜ r ≡ sortedOf self ⌝ }
     {
         Range {
@@ -167,7 +167,8 @@ impl Range {
         }
     }
 
-    fn ends_hull(self, other: Range) -> Range
+    // The least and the greatest end, of any two.
+    pub fn ends_hull(self, other: Range) -> Range
         ensures { λ r. ⌜ r ≡ endsHull self other ⌝ }
     {
         Range {
@@ -187,7 +188,7 @@ impl Range {
     }
 
     // Divided by 10,000, outward.
-    fn scaled(self) -> Range
+    pub fn scaled(self) -> Range
         ensures { λ r. ⌜ r ≡ scaledOf self ⌝ }
     {
         Range {
@@ -196,12 +197,34 @@ impl Range {
         }
     }
 
-    // The least and the greatest of the four end products.
+    fn both_above(self, other: Range) -> bool
+        ensures { λ r. ⌜ r ≡ (leZ (pos 0) (self .low) && leZ (pos 0) (other .low)) ⌝ }
+    {
+        (0 <= self.low) & (0 <= other.low)
+    }
+
+    // The products of the low ends and of the high ends.
+    fn end_by_end(self, other: Range) -> Range
+        requires { ⌜ isValid self ≡ true ⌝ }
+        requires { ⌜ isValid other ≡ true ⌝ }
+        ensures { λ r. ⌜ r ≡ fromTo (self .low *ℤ other .low) (self .high *ℤ other .high) ⌝ }
+    {
+        Range {
+            low: self.low * other.low,
+            high: self.high * other.high,
+        }
+    }
+
+    // The least and the greatest of the four end products. Of ranges that are not below 0 they are those of the low ends and of the high ends,
+    // which spares two products.
     fn spread(self, other: Range) -> Range
         requires { ⌜ isValid self ≡ true ⌝ }
         requires { ⌜ isValid other ≡ true ⌝ }
         ensures { λ r. ⌜ r ≡ spreadOf self other ⌝ }
     {
+        if self.both_above(other) {
+            return self.end_by_end(other);
+        }
         let a = other.ends_by(self.low).sorted();
         let b = other.ends_by(self.high).sorted();
         a.ends_hull(b)

@@ -6,29 +6,32 @@ ghost use Rattle.exact.specs.Sqrt.{ceilSqrt};
 ghost use Rattle.range.specs.Steps.{aroundRoot};
 use super::Range;
 
-// A power of 2 near the root of x: nothing rests on which one.
-fn power_near(x: u64) -> u64
-    ensures { λ r. ⌜ (1 ≤ r) × (r ≤ 4294967296) ⌝ }
+// Half the number of the binary digits of x.
+fn half_digits(x: u64) -> u32
+    ensures { λ r. ⌜ r ≤ 32 ⌝ }
 {
     let zeros = u64::leading_zeros(x);
-    if 62 < zeros {
-        return 1;
-    }
-    let r = 1u64 << ((64 - zeros) / 2);
-    if r < 1 {
-        return 1;
-    }
-    if r <= 4_294_967_296 { r } else { 4_294_967_296 }
+    if zeros <= 64 { (64 - zeros) / 2 } else { 0 }
 }
 
-// Near the root of x, by Newton's rule: nothing rests on how near.
+// A first step of Newton's rule, from a power of 2 near the root of x, where a shift divides.
+fn first_near(x: u64) -> u64
+    requires { ⌜ x ≤ 4000000000000000000 ⌝ }
+    ensures { λ r. ⌜ (1 ≤ r) × (r ≤ 4000000000000000000) ⌝ }
+{
+    let h = half_digits(x);
+    ((1u64 << h) + (x >> h)) / 2 + 1
+}
+
+// Near the root of x, by Newton's rule: nothing rests on how near. The power of 2 is within a factor of 2 of the root, so that four steps in
+// all, three of which divide, come within 1 of it.
 fn near_root(x: u64) -> u64
     requires { ⌜ x ≤ 4000000000000000000 ⌝ }
     ensures { λ r. ⌜ r ≤ 2000000000 ⌝ }
 {
-    let mut r = power_near(x);
+    let mut r = first_near(x);
     let mut k: u64 = 0;
-    while k < 5 {
+    while k < 3 {
         r = (r + x / r) / 2 + 1;
         k += 1;
     }

@@ -9,24 +9,30 @@ unfolding invRow
 returns c =
     let sum = c .before in
     let own = sum .before .before in
-    let times = own .before .before in
-    let product = times .before in
+    let times = own .before .before .before .before in
+    let square = times .before .before in
     rw (
       c .product2 .ensures,
       sum .sum .ensures,
       sum .before .power .ensures,
       own .negated .ensures,
       own .before .extended .ensures,
+      own .before .before .nonlinear .ensures,
+      own .before .before .before .spectrum .ensures,
       times .times .ensures,
-      product .product .ensures,
-      product .before .of-square .ensures,
-      product .before .before .before .pre,
+      times .before .product .ensures,
+      square .of-square .ensures,
+      square .before .support .ensures,
+      square .before .before .pre .1,
     )
 
 pub inverse-spectrum-spec : {M : Type 1} → statement M
 inverse-spectrum-spec =
     tie.close
     (tie.spec
+    (λ c κs. search needs)
+    (λ c κs. search needs)
+    (λ c κs. search needs)
     (λ c κs. search needs)
     (λ c κs. search needs)
     (λ c κs. search needs)

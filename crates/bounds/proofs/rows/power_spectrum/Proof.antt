@@ -9,7 +9,8 @@ unfolding powRow
 returns c =
     let sum = c .before .before in
     let own = sum .before .before in
-    let times = own .before .before in
+    let times = own .before .before .before .before in
+    let value = times .before .before in
     rw (
       c .times2 .ensures,
       c .before .product2 .ensures,
@@ -17,8 +18,12 @@ returns c =
       sum .before .power .ensures,
       own .product .ensures,
       own .before .extended .ensures,
+      own .before .before .nonlinear .ensures,
+      own .before .before .before .spectrum .ensures,
       times .times .ensures,
       times .before .of-square .ensures,
+      value .value .ensures,
+      value .before .support .ensures,
     )
 
 pub power-spectrum-spec : {M : Type 1} → statement M
@@ -26,7 +31,11 @@ power-spectrum-spec =
     tie.close
     (tie.spec
     (λ c κs. search needs)
+    (λ c κs. search needs)
+    (λ c κs. search needs)
     (λ c. search needs)
+    (λ c κs. search needs)
+    (λ c κs. search needs)
     (λ c κs. search needs)
     (λ c κs. search needs)
     (λ c κs. search needs)

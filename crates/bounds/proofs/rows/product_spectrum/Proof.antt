@@ -1,22 +1,56 @@
 -- `bounds::rows::product_spectrum` meets its contract. Assumes nothing.
 use borrow.Author.Needs.{needs}
+use mathlib.Core.Path.{ap, _∙_}
+use Rattle.range.specs.Limit.{isValid}
 use Rattle.rules.specs.Table.{mulRow}
+use Rattle.bounds.proofs.Settled.{value-valid, spectrum-valid}
 use Rattle.bounds.proofs.rows.product_spectrum.Statement.{statement}
 use Rattle.bounds.proofs.rows.product_spectrum.Tie as tie
+
+-- where the function starts, seen from its first product
+abbrev start : tie.After-product → tie.Start
+start c = c .before .before .before .before .before .before .before
+
+product-requires : tie.Need-product-requires
+product-requires c κs =
+    let lines = c .before .before .before .before .before .before .pre .1 .1 in (
+      ap isValid (c .before .value .ensures) ∙ value-valid _ (lines .1 .valid),
+      ap isValid (c .spectrum .ensures) ∙ spectrum-valid _ (lines .0 .valid),
+    )
+
+product-requires-2 : tie.Need-product-requires-2
+product-requires-2 c κs =
+    let lines = start (c .before .before) .pre .1 .1 in (
+      ap isValid (c .before .value2 .ensures) ∙ value-valid _ (lines .0 .valid),
+      ap isValid (c .spectrum2 .ensures) ∙ spectrum-valid _ (lines .1 .valid),
+    )
+
+of-cross-requires : tie.Need-of-cross-requires
+of-cross-requires c κs = let pre = start (c .before .before .before .before) .pre in (pre .0, pre .1 .0)
 
 returns : tie.Need-returns
 unfolding mulRow
 returns c =
-    let cross = c .before .before .before .before in
+    let cross = c .before .before in
     let own = cross .before in
     let second = own .before in
+    let first = second .before .before .before in
+    let sets = first .before .before .before in
     rw (
       c .sum .ensures,
       cross .of-cross .ensures,
       c .before .extended .ensures,
       own .of-sum .ensures,
       second .product2 .ensures,
-      second .before .product .ensures,
+      second .before .before .value2 .ensures,
+      second .before .spectrum2 .ensures,
+      first .product .ensures,
+      first .before .before .value .ensures,
+      first .before .spectrum .ensures,
+      sets .nonlinear2 .ensures,
+      sets .before .nonlinear .ensures,
+      sets .before .before .support2 .ensures,
+      sets .before .before .before .support .ensures,
     )
 
 pub product-spectrum-spec : {M : Type 1} → statement M
@@ -27,6 +61,14 @@ product-spectrum-spec =
     (λ c κs. search needs)
     (λ c κs. search needs)
     (λ c κs. search needs)
+    (λ c κs. search needs)
+    (λ c κs. search needs)
+    product-requires
+    (λ c κs. search needs)
+    (λ c κs. search needs)
+    product-requires-2
+    (λ c κs. search needs)
+    of-cross-requires
     (λ c κs. search needs)
     (λ c κs. search needs)
     returns)

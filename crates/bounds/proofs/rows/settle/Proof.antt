@@ -1,17 +1,59 @@
 -- `bounds::rows::settle` meets its contract. Assumes nothing.
 use borrow.Author.Needs.{needs}
-use Rattle.range.proofs.Fitting.{branching}
-use Rattle.bounds.specs.Terms.{settled}
+use mathlib.Core.Path.{_≡_, refl, sym, ap₂, _∙_}
+use mathlib.Core.Bool.{true, _&&_, false≢true}
+use borrow.Author.Tests.{not-true, not-false}
+use Rattle.rules.specs.Run.{within}
+use Rattle.bounds.specs.Table.{lineWith}
+use Rattle.bounds.proofs.Settled.{value-valid, gradient-valid, spectrum-valid}
+use Rattle.bounds.proofs.Working.{placed}
 use Rattle.bounds.proofs.rows.settle.Statement.{statement}
 use Rattle.bounds.proofs.rows.settle.Tie as tie
 
+-- what the test found
+tested : (c : tie.After-struct-known) → let s = c .before .before .before .before .before in
+    (c .before .before .valid .result && (s .args .g .valid && c .before .valid2 .result)) ≡ within (lineWith (s .args .h) (s .args .g))
+unfolding within
+tested c =
+    let s = c .before .before .before .before .before in
+    ap₂ _&&_ (c .before .before .valid .ensures) (ap₂ _&&_ (s .pre .1) (c .before .valid2 .ensures))
+
+valid : (c : tie.Else1) → let s = c .before .before .before .before .before .before in within (lineWith (s .args .h) (s .args .g)) ≡ true
+valid c = sym (tested (c .before)) ∙ not-false _ (c .if1 .left)
+
 returns : tie.Need-returns
-unfolding settled
-returns c = search (needs, branching, c .before .is-within .ensures)
+returns c = record { tells = sym (sym (tested (c .before)) ∙ not-true _ (c .if1 .taken)); line = λ e. absurd (false≢true e); others = λ q n. refl }
+
+put-head-requires : tie.Need-put-head-requires
+put-head-requires c κs =
+    let test = c .before .before .before .before .before .before in
+    let v = valid test in
+    (test .before .before .before .before .before .before .pre .0, (value-valid _ v, spectrum-valid _ v))
+
+put-requires : tie.Need-put-requires
+put-requires c κs =
+    let test = c .before .before .before .before .before .before .before .before .before in
+    (test .before .before .before .before .before .before .pre .0, gradient-valid _ (valid test))
 
 returns-2 : tie.Need-returns-2
-unfolding settled
-returns-2 c = search (needs, branching, c .before .is-within .ensures)
+returns-2 c =
+    let head = c .before .before .before in
+    let sized = head .before .before .before in
+    let test = sized .before .before .before .before in
+    let s = test .before .before .before .before .before .before in
+    let p = placed (s .args .t .now) (s .args .s .now) _ _ (s .args .g) _ _ _ (head .put-head .ensures) (c .put .ensures)
+    (sized .before .before .sized .ensures) (sized .sized-sets .ensures) (s .pre .0) in
+    record { tells = sym (valid test); line = λ e. p .line; others = p .others }
 
 pub settle-spec : {M : Type 1} → statement M
-settle-spec = tie.close (tie.spec (λ c κs. search needs) returns returns-2)
+settle-spec =
+    tie.close
+    (tie.spec
+    (λ c κs. search needs)
+    (λ c κs. search needs)
+    returns
+    (λ c κs. search needs)
+    (λ c κs. search needs)
+    put-head-requires
+    put-requires
+    returns-2)

@@ -15,7 +15,7 @@ returns c =
     let sorted = scaled .before in
     c .from-zero .ensures
     ∙ ap (λ (r : Range). upTo (r .high))
-    (scaled .scaled .ensures ∙ ap scaledOf (sorted .sorted .ensures ∙ ap sortedOf (sorted .before .end-squares .ensures)))
+    (scaled .scaled .ensures ∙ ap scaledOf (sorted .sorted .ensures ∙ ap sortedOf (sorted .before .end-by-end .ensures)))
 
 pub ends-square-spec : {M : Type 1} → statement M
 ends-square-spec = tie.close (tie.spec (λ c κs. search needs) (λ c κs. search needs) (λ c κs. search needs) (λ c κs. search needs) returns)

@@ -10,10 +10,10 @@ abbrev Inv-loop : tie.InvT-loop
 Inv-loop x r₀ k₀ r k = (1 ≤ r) × (r ≤ 4000000000000000002) × (x ≤ 4000000000000000000)
 
 abbrev μ-loop : tie.MeasureT-loop
-μ-loop x r₀ k₀ r k = 5 - k
+μ-loop x r₀ k₀ r k = 3 - k
 
 loop-holds : tie.Need-loop-holds Inv-loop μ-loop
-loop-holds c = (search needs, omega (arith, c .power-near .ensures .1), search needs)
+loop-holds c = (search needs, omega (arith, c .first-near .ensures .1), search needs)
 
 div-r : tie.Need-div-r Inv-loop μ-loop
 div-r c = search needs
@@ -45,7 +45,7 @@ near-root-spec =
     (tie.spec
     Inv-loop
     μ-loop
-    (λ c κs. tt)
+    (λ c κs. search needs)
     loop-holds
     div-r
     add-r

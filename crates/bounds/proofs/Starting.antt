@@ -1,0 +1,60 @@
+-- The loop that writes the lines of the factors. Assumes nothing.
+use mathlib.Core.Path.{_≡_, refl, sym, ap, ap₂, subst, _∙_}
+use mathlib.Core.Bool.{true}
+use mathlib.Core.List.{List, [], _∷_, _++_}
+use Prim.Native.Nat.{ℕ, zero, suc, _+_, _<_}
+use native.Mathlib.Nat as N
+use native.Mathlib.Numerals.{add-one}
+use native.Mathlib.Omega.{arith}
+use lib.IntN.{ℤ}
+use lib.ListN.{length, getD, take}
+use lib.Seq.{take-suc, take-all}
+use Rattle.range.specs.declared.Range.{Range}
+use Rattle.range.specs.Limit.{isValid}
+use Rattle.range.specs.Sums.{at}
+use Rattle.rules.specs.declared.Line.{Line}
+use Rattle.rules.specs.Table.{factorRow, lineOf}
+use Rattle.rules.specs.Run.{noLine, eachValid, factorLines}
+use Rattle.bounds.specs.Table.{linesUpTo, Ready, Started, Placed}
+use Rattle.bounds.proofs.Factors.{factor-fine}
+use Rattle.bounds.proofs.Settled.{each-at}
+use Rattle.bounds.proofs.Running.{ready-more, lines-more}
+
+-- ---- the lines of all factors
+factor-at : (i k : ℕ) (rs : List Range) → k < length rs → getD (factorLines i rs) k noLine ≡ lineOf (factorRow (i + k) (at rs k))
+unfolding factorLines
+factor-at i k [] h = absurd (omega arith)
+factor-at i zero (r ∷ rs) h = ap (λ (j : ℕ). lineOf (factorRow j r)) (omega arith)
+factor-at i (suc k) (r ∷ rs) h = factor-at (suc i) k rs (omega arith) ∙ ap (λ (j : ℕ). lineOf (factorRow j (at rs k))) (omega arith)
+
+factors-long : (i : ℕ) (rs : List Range) → length (factorLines i rs) ≡ length rs
+unfolding factorLines
+factors-long i [] = refl
+factors-long i (r ∷ rs) = ap suc (factors-long (suc i) rs)
+
+-- the first k lines are those of the first k factors
+abbrev pub Begun : List Range → List ℤ → List ℕ → ℕ → Type 0
+Begun rs t s k = Started (take k (factorLines 0 rs)) k t s
+
+module _ (rs : List Range) (v : eachValid rs ≡ true) where
+  pub begun-none : (t : List ℤ) (s : List ℕ) → Ready t s 0 → Begun rs t s 0
+  unfolding linesUpTo
+  begun-none t s i = record { ready = i; lines = refl }
+
+  pub begun-more : {t : List ℤ} {s : List ℕ} {u : List ℤ} {w : List ℕ} (k : ℕ) (r : Range) → Begun rs t s k → k < length rs → r ≡ at rs k
+      → Placed (lineOf (factorRow k r)) t s k u w → Begun rs u w (k + 1)
+  begun-more k r i h e p =
+      let valid : isValid r ≡ true = ap isValid e ∙ each-at rs v k in
+      let here = ap (λ (q : Range). lineOf (factorRow k q)) e ∙ sym (rw N.zero-add at (factor-at 0 k rs h)) in
+      record {
+        ready = ready-more k _ (i .ready) p (factor-fine k r valid);
+        lines = lines-more k _ (i .ready) p
+            ∙ ap₂ (λ (ls : List Line) (l : Line). ls ++ (l ∷ [])) (i .lines) here
+            ∙ sym (take-suc (factorLines 0 rs) k noLine (omega (arith, factors-long 0 rs)))
+            ∙ ap (λ (n : ℕ). take n (factorLines 0 rs)) (sym (add-one k));
+      }
+
+  pub begun-all : (t : List ℤ) (s : List ℕ) (n k : ℕ) → length rs ≡ n → n ≡ k → Begun rs t s k → Started (factorLines 0 rs) n t s
+  begun-all t s n k e f i =
+      let all : take k (factorLines 0 rs) ≡ factorLines 0 rs = take-all k (factorLines 0 rs) (omega (arith, factors-long 0 rs)) in
+      subst (λ (m : ℕ). Started (factorLines 0 rs) m t s) (sym f) (record { ready = i .ready; lines = i .lines ∙ all })

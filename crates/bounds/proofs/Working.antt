@@ -1,0 +1,213 @@
+-- A line that is worked out by a row: its head is written, and then its slopes. Assumes nothing.
+use mathlib.Core.Path.{_≡_, refl, sym, ap, _∙_}
+use mathlib.Core.Bool.{Bool, true, false, false≢true}
+use mathlib.Core.List.{List}
+use mathlib.Core.Logic.{_⊎_, inl, inr}
+use Prim.Native.Nat.{ℕ, _+_, _*_, _≤_, _<_}
+use native.Mathlib.Omega.{arith}
+use lib.IntN.{ℤ, pos}
+use lib.ListN.{length, getD, set, length-set}
+use lib.Seq.{getD-set-same, getD-set-other}
+use Rattle.range.specs.declared.Range.{Range}
+use Rattle.range.specs.Limit.{zeroRange, isValid}
+use Rattle.range.specs.Sums.{has, at, pairAt}
+use Rattle.rules.specs.declared.Line.{Line}
+use Rattle.rules.specs.Formula.{sticky}
+use Rattle.rules.specs.Table.{Row, lineOf}
+use Rattle.rules.specs.Run.{eachValid, within}
+use Rattle.bounds.specs.declared.slopes.Slopes.{Slopes}
+use Rattle.bounds.specs.declared.table.Head.{Head}
+use Rattle.bounds.specs.Terms.{overMembers, slopesOf, Flat, Fine}
+use Rattle.bounds.specs.Table.{gradientAt, lineAt, putPair, Refers, Stored, lineWith, Placed, Settled, Worked}
+use Rattle.bounds.proofs.Members.{below-or, eight-same, eight-at, members-all, members-flat}
+use Rattle.bounds.proofs.Pairs.{put-long, put-read, put-other, same-pair, same-ranges}
+use Rattle.bounds.proofs.Settled.{gradient-valid, slope-over}
+
+-- ---- the line that a row refers to
+module _ {t : List ℤ} {s : List ℕ} {i k : ℕ} (r : Refers t s i k) where
+  pub refers-inside : k < 64 → i < 64
+  refers-inside h = omega (arith, r .earlier)
+
+  pub refers-valid : eachValid (gradientAt t i) ≡ true
+  refers-valid = gradient-valid (lineAt t s i) (r .fine .valid)
+
+-- its own slopes, which the row `addc` keeps
+pub own-slopes : (l : Line) → Fine l → length (l .gradient) ≡ 8 → {p : ℕ} {g : List Range} → p ≡ l .support → g ≡ l .gradient
+    → _≡_ {A = Slopes} (record { gradient = g; valid = true }) (slopesOf p (at (l .gradient)))
+own-slopes l f e {p} {g} q r =
+    let slope = at (l .gradient) in
+    let all : l .gradient ≡ overMembers p slope =
+    eight-at (l .gradient) e ∙ sym (members-all (l .support) slope (f .flat)) ∙ ap (λ (n : ℕ). overMembers n slope) (sym q) in
+    λ i. record { gradient = (r ∙ all) i; valid = (sym (gradient-valid l (f .valid)) ∙ ap eachValid all) i }
+
+-- ---- other lines
+module _ (t u : List ℤ) (s v : List ℕ) (k : ℕ)
+    (numbers : (n : ℕ) → (n < 20 * k) ⊎ (20 * k + 20 ≤ n) → getD u n (pos 0) ≡ getD t n (pos 0))
+    (sets : (n : ℕ) → (n < 2 * k) ⊎ (2 * k + 2 ≤ n) → getD v n 0 ≡ getD s n 0)
+  where
+    same-line : (q : ℕ) → (q < k) ⊎ (k < q) → lineAt u v q ≡ lineAt t s q
+    same-line q (inl h) = λ i. record {
+      value = same-pair u t (20 * q) (numbers _ (inl (omega arith))) (numbers _ (inl (omega arith))) i;
+      gradient = same-ranges u t (20 * q + 4) (λ n l m. numbers n (inl (omega arith))) i;
+      support = sets (2 * q) (inl (omega arith)) i;
+      nonlinear = sets (2 * q + 1) (inl (omega arith)) i;
+      spectrum = same-pair u t (20 * q + 2) (numbers _ (inl (omega arith))) (numbers _ (inl (omega arith))) i;
+    }
+    same-line q (inr h) = λ i. record {
+      value = same-pair u t (20 * q) (numbers _ (inr (omega arith))) (numbers _ (inr (omega arith))) i;
+      gradient = same-ranges u t (20 * q + 4) (λ n l m. numbers n (inr (omega arith))) i;
+      support = sets (2 * q) (inr (omega arith)) i;
+      nonlinear = sets (2 * q + 1) (inr (omega arith)) i;
+      spectrum = same-pair u t (20 * q + 2) (numbers _ (inr (omega arith))) (numbers _ (inr (omega arith))) i;
+    }
+
+    other-lines : (q : ℕ) → ¬ (q ≡ k) → lineAt u v q ≡ lineAt t s q
+    other-lines q n = same-line q (side (below-or q k))
+      where
+        side : (q < k) ⊎ (k ≤ q) → (q < k) ⊎ (k < q)
+        side (inl h) = inl h
+        side (inr h) = inr (omega (arith, n))
+
+-- ---- the head of a line: what `put_head` leaves
+module _ (t : List ℤ) (k : ℕ) (value spectrum : Range) (u : List ℤ) (w : u ≡ putPair (putPair t (20 * k) value) (20 * k + 2) spectrum) where
+  abbrev valued : List ℤ
+  valued = putPair t (20 * k) value
+
+  number-other : (n : ℕ) → (n < 20 * k) ⊎ (20 * k + 4 ≤ n) → getD u n (pos 0) ≡ getD t n (pos 0)
+  number-other n o =
+      ap (λ (l : List ℤ). getD l n (pos 0)) w ∙ put-other valued (20 * k + 2) spectrum n (second o) ∙ put-other t (20 * k) value n (first o)
+    where
+      second : (n < 20 * k) ⊎ (20 * k + 4 ≤ n) → (n < 20 * k + 2) ⊎ (20 * k + 2 + 2 ≤ n)
+      second (inl l) = inl (omega arith)
+      second (inr l) = inr (omega arith)
+
+      first : (n < 20 * k) ⊎ (20 * k + 4 ≤ n) → (n < 20 * k) ⊎ (20 * k + 2 ≤ n)
+      first (inl l) = inl l
+      first (inr l) = inr (omega arith)
+
+  -- no slope has changed
+
+  module _ (long : length t ≡ 1280) (inside : k < 64) where
+    head-value : pairAt u (20 * k) ≡ value
+    head-value =
+        ap (λ (l : List ℤ). pairAt l (20 * k)) w
+        ∙ same-pair
+        (putPair valued (20 * k + 2) spectrum)
+        valued
+        (20 * k)
+        (put-other valued (20 * k + 2) spectrum (20 * k) (inl (omega arith)))
+        (put-other valued (20 * k + 2) spectrum (20 * k + 1) (inl (omega arith)))
+        ∙ put-read t (20 * k) value (omega arith)
+
+    head-spectrum : pairAt u (20 * k + 2) ≡ spectrum
+    head-spectrum =
+        ap (λ (l : List ℤ). pairAt l (20 * k + 2)) w ∙ put-read valued (20 * k + 2) spectrum (omega (arith, put-long t (20 * k) value))
+
+module _ (s : List ℕ) (k support nonlinear : ℕ) (v : List ℕ) (w : v ≡ set (set s (2 * k) support) (2 * k + 1) nonlinear) where
+  set-other : (n : ℕ) → (n < 2 * k) ⊎ (2 * k + 2 ≤ n) → getD v n 0 ≡ getD s n 0
+  set-other n o =
+      ap (λ (l : List ℕ). getD l n 0) w
+      ∙ getD-set-other (set s (2 * k) support) (2 * k + 1) n nonlinear 0 (second o)
+      ∙ getD-set-other s (2 * k) n support 0 (first o)
+    where
+      second : (n < 2 * k) ⊎ (2 * k + 2 ≤ n) → n ≡ 2 * k + 1 → ⊥
+      second (inl l) e = omega arith
+      second (inr l) e = omega arith
+
+      first : (n < 2 * k) ⊎ (2 * k + 2 ≤ n) → n ≡ 2 * k → ⊥
+      first (inl l) e = omega arith
+      first (inr l) e = omega arith
+
+  module _ (long : length s ≡ 128) (inside : k < 64) where
+    head-support : getD v (2 * k) 0 ≡ support
+    head-support =
+        ap (λ (l : List ℕ). getD l (2 * k) 0) w
+        ∙ getD-set-other (set s (2 * k) support) (2 * k + 1) (2 * k) nonlinear 0 (λ e. omega arith)
+        ∙ getD-set-same s (2 * k) support 0 (omega arith)
+
+    head-nonlinear : getD v (2 * k + 1) 0 ≡ nonlinear
+    head-nonlinear =
+        ap (λ (l : List ℕ). getD l (2 * k + 1) 0) w
+        ∙ getD-set-same (set s (2 * k) support) (2 * k + 1) nonlinear 0 (omega (arith, length-set s (2 * k) support))
+
+-- ---- and its slopes: what `settle` leaves
+module _ (t : List ℤ) (s : List ℕ) (k : ℕ) (h : Head) (g : Slopes) (u : List ℤ) (v : List ℕ) (x : List ℤ)
+    (w : (u ≡ putPair (putPair t (20 * k) (h .value)) (20 * k + 2) (h .spectrum))
+    × (v ≡ set (set s (2 * k) (h .support)) (2 * k + 1) (h .nonlinear)))
+    (z : Stored (g .gradient) u k x)
+    (long : length t ≡ 1280) (sets : length s ≡ 128) (inside : k < 64)
+  where
+    pub placed : Placed (lineWith h g) t s k x v
+    placed =
+        let o = z .others in
+        record {
+          line = λ i. record {
+            value = (same-pair x u (20 * k) (o _ (inl (omega arith))) (o _ (inl (omega arith))) ∙ head-value t k _ _ u (w .0) long inside) i;
+            gradient = z .slopes i;
+            support = head-support s k _ _ v (w .1) sets inside i;
+            nonlinear = head-nonlinear s k _ _ v (w .1) sets inside i;
+            spectrum = (same-pair x u (20 * k + 2) (o _ (inl (omega arith))) (o _ (inl (omega arith))) ∙ head-spectrum t k _ _ u (w .0) long inside) i;
+          };
+          others = other-lines t x s v k (λ n p. o n (slope p) ∙ number-other t k _ _ u (w .0) n (head p)) (set-other s k _ _ v (w .1));
+        }
+      where
+        slope : {n : ℕ} → (n < 20 * k) ⊎ (20 * k + 20 ≤ n) → (n < 20 * k + 4) ⊎ (20 * k + 20 ≤ n)
+        slope (inl l) = inl (omega arith)
+        slope (inr l) = inr l
+
+        head : {n : ℕ} → (n < 20 * k) ⊎ (20 * k + 20 ≤ n) → (n < 20 * k) ⊎ (20 * k + 4 ≤ n)
+        head (inl l) = inl l
+        head (inr l) = inr (omega arith)
+
+-- ---- the line of a row
+-- The head is a row's.
+pub record HeadOf (row : Row) (h : Head) : Type 0 where
+  pub value : h .value ≡ sticky (row .value)
+  pub spectrum : h .spectrum ≡ sticky (row .spectrum)
+  pub support : h .support ≡ row .support
+  pub nonlinear : h .nonlinear ≡ row .nonlinear
+
+-- the slopes tell of themselves whether they are valid
+pub slopes-tell : (g : Slopes) (l : List Range) → g ≡ record { gradient = l; valid = eachValid l } → g .valid ≡ eachValid (g .gradient)
+slopes-tell g l e = ap (λ (y : Slopes). y .valid) e ∙ sym (ap (λ (y : Slopes). eachValid (y .gradient)) e)
+
+module _ (row : Row) (h : Head) (m : HeadOf row h) (f : ℕ → Range)
+    (same : (a : ℕ) → f a ≡ sticky (row .slope a))
+    (outside : (a : ℕ) → has (row .support) a ≡ false → sticky (row .slope a) ≡ zeroRange)
+  where
+    all-slopes : overMembers (row .support) f ≡ lineOf row .gradient
+    unfolding lineOf
+    all-slopes = members-all (row .support) f (λ a o. same a ∙ outside a o) ∙ eight-same f (λ a. sticky (row .slope a)) (λ a l. same a)
+
+    flat : Flat (lineOf row)
+    unfolding lineOf
+    flat a e = ap (λ (g : List Range). at g a) (sym all-slopes) ∙ members-flat (row .support) f a e
+
+    -- g: what the function of the row's slopes gave
+    line-is : (g : Slopes) → g ≡ slopesOf (h .support) f → lineWith h g ≡ lineOf row
+    unfolding lineOf
+    line-is g e =
+        let slopes = ap (λ (y : Slopes). y .gradient) e ∙ ap (λ (p : ℕ). overMembers p f) (m .support) ∙ all-slopes in
+        λ i. record { value = m .value i; gradient = slopes i; support = m .support i; nonlinear = m .nonlinear i; spectrum = m .spectrum i }
+
+    pub worked : (g : Slopes) (t : List ℤ) (s : List ℕ) (k : ℕ) (ok : Bool) (u : List ℤ) (v : List ℕ) → g ≡ slopesOf (h .support) f
+        → Settled (lineWith h g) t s k ok u v → Worked row t s k ok u v
+    worked g t s k ok u v e z =
+        let is = line-is g e in
+        let tells : ok ≡ within (lineOf row) = z .tells ∙ ap within is in
+        record {
+          tells = tells;
+          line = λ y. z .line y ∙ is;
+          fine = λ y. record { valid = sym tells ∙ y; flat = flat };
+          others = z .others;
+        }
+
+-- a row whose slopes are `over` needs no line
+pub worked-over : (row : Row) (t : List ℤ) (s : List ℕ) (k : ℕ) → isValid (sticky (row .slope 0)) ≡ false → Worked row t s k false t s
+unfolding lineOf
+worked-over row t s k e = record {
+  tells = sym (slope-over (lineOf row) (sticky (row .slope 0)) _ refl e);
+  line = λ z. absurd (false≢true z);
+  fine = λ z. absurd (false≢true z);
+  others = λ q n. refl;
+}

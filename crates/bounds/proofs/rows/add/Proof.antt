@@ -1,0 +1,83 @@
+-- `bounds::rows::add` meets its contract. Assumes nothing.
+use borrow.Author.Needs.{needs}
+use mathlib.Core.Path.{refl, ap, ap₂, _∙_}
+use lib.Bits.{bitOr}
+use Rattle.range.specs.Limit.{isValid}
+use Rattle.range.specs.Arithmetic.{sumOf}
+use Rattle.rules.specs.Table.{addRow}
+use Rattle.bounds.specs.Terms.{sumSpectrumOf}
+use Rattle.bounds.proofs.Members.{outside-union}
+use Rattle.bounds.proofs.Settled.{value-valid}
+use Rattle.bounds.proofs.Working.{slopes-tell, refers-inside, refers-valid, worked}
+use Rattle.bounds.proofs.Zeros.{zero-sum}
+use Rattle.bounds.proofs.rows.add.Statement.{statement}
+use Rattle.bounds.proofs.rows.add.Tie as tie
+
+-- where the function starts, seen from its sets, from its values and from its head
+abbrev start : tie.After-nonlinear2 → tie.Start
+start c = c .before .before .before .before .before .before .before .before
+
+abbrev values-start : tie.After-value2 → tie.Start
+values-start c = start (c .before .before .before .before)
+
+abbrev head-start : tie.After-settle-arg2 → tie.Start
+head-start c = values-start (c .before .before .before .before .before .before .before .before .before .before)
+
+sum-requires : tie.Need-sum-requires
+sum-requires c κs =
+    let pre = values-start c .pre .1 in (
+      ap isValid (c .before .before .value .ensures) ∙ value-valid _ (pre .0 .fine .valid),
+      ap isValid (c .value2 .ensures) ∙ value-valid _ (pre .1 .fine .valid),
+    )
+
+spectrum-requires-2 : tie.Need-spectrum-requires-2
+spectrum-requires-2 c κs =
+    let pre = values-start (c .before .before .before .before) .pre in
+    refers-inside (pre .1 .1) (pre .0)
+
+of-sum-requires-2 : tie.Need-of-sum-requires-2
+of-sum-requires-2 c κs =
+    let pre = values-start (c .before .before .before .before .before .before .before) .pre in
+    let lines = pre .1 in
+    (refers-inside (lines .0) (pre .0), (refers-inside (lines .1) (pre .0), (refers-valid (lines .0), refers-valid (lines .1))))
+
+settle-requires : tie.Need-settle-requires
+settle-requires c κs = (head-start c .pre .0, slopes-tell _ _ (c .before .before .of-sum2 .ensures))
+
+returns : tie.Need-returns
+unfolding addRow
+returns c =
+    let slopes = c .before .before .before in
+    let spectra = slopes .before .before in
+    let sum = spectra .before .before .before .before .before in
+    let sets = sum .before .before .before .before .before in
+    let s = start sets in
+    worked _ _
+    (record {
+      value = sum .sum .ensures ∙ ap₂ sumOf (sum .before .before .before .value .ensures) (sum .before .value2 .ensures);
+      spectrum = spectra .of-sum .ensures ∙ (λ l. sumSpectrumOf (spectra .before .before .before .spectrum .ensures l) (sets .before .before .nonlinear .ensures l) (spectra .before .spectrum2 .ensures l) (sets .nonlinear2 .ensures l));
+      support = ap₂ bitOr (sets .before .before .before .before .before .before .support .ensures) (sets .before .before .before .before .support2 .ensures);
+      nonlinear = ap₂ bitOr (sets .before .before .nonlinear .ensures) (sets .nonlinear2 .ensures);
+    })
+    _
+    (λ a. refl)
+    (λ a o. let out = outside-union _ _ a o in ap₂ sumOf (s .pre .1 .0 .fine .flat a (out .0)) (s .pre .1 .1 .fine .flat a (out .1)) ∙ zero-sum)
+    _ _ _ _ _ _ _ (slopes .of-sum2 .ensures) (c .settle .ensures)
+
+pub add-spec : {M : Type 1} → statement M
+add-spec =
+    tie.close
+    (tie.spec
+    (λ c κs. search needs)
+    (λ c κs. search needs)
+    (λ c κs. search needs)
+    (λ c κs. search needs)
+    (λ c κs. search needs)
+    (λ c κs. search needs)
+    sum-requires
+    (λ c κs. search needs)
+    spectrum-requires-2
+    (λ c κs. search needs)
+    of-sum-requires-2
+    settle-requires
+    returns)

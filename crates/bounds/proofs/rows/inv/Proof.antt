@@ -1,0 +1,97 @@
+-- `bounds::rows::inv` meets its contract. Assumes nothing.
+use borrow.Author.Needs.{needs}
+use mathlib.Core.Path.{_≡_, sym, ap, _∙_}
+use mathlib.Core.Bool.{true}
+use borrow.Author.Tests.{not-true, not-false}
+use denote.Ref.{now}
+use Rattle.range.specs.declared.Range.{Range}
+use Rattle.range.specs.Limit.{isValid}
+use Rattle.range.specs.Arithmetic.{negOf, productOf, inverseOf}
+use Rattle.range.specs.Power.{powOf}
+use Rattle.range.specs.Sums.{at}
+use Rattle.range.proofs.Fitting.{neg-valid, negOf-is}
+use Rattle.rules.specs.Table.{invRow}
+use Rattle.bounds.specs.Table.{valueAt, gradientAt}
+use Rattle.bounds.proofs.Working.{slopes-tell, refers-inside, refers-valid, worked, worked-over}
+use Rattle.bounds.proofs.Signs.{product-negated}
+use Rattle.bounds.proofs.Zeros.{zero-inverse, inverse-over}
+use Rattle.bounds.proofs.rows.inv.Statement.{statement}
+use Rattle.bounds.proofs.rows.inv.Tie as tie
+
+-- where the function starts, seen from V_k and from its head
+abbrev start : tie.After-inverse → tie.Start
+start c = c .before .before .before .before .before
+
+abbrev head-start : tie.After-settle-arg2 → tie.Start
+head-start c = start (c .before .before .before .before .before .before .before .before .before .before .before)
+
+inverse-is : (c : tie.After-inverse) → let s = start c in c .inverse .result ≡ inverseOf (valueAt (now (s .args .t)) (s .args .i))
+inverse-is c = c .inverse .ensures ∙ ap inverseOf (c .before .value .ensures)
+
+square-is : (c : tie.After-power) → let s = start (c .before) in
+    c .power .result ≡ powOf (inverseOf (valueAt (now (s .args .t)) (s .args .i))) 2
+square-is c = c .power .ensures ∙ ap (λ (v : Range). powOf v 2) (inverse-is (c .before))
+
+square-valid : (c : tie.Else1) → isValid (c .before .before .power .result) ≡ true
+square-valid c = sym (c .before .valid .ensures) ∙ not-false _ (c .if1 .left)
+
+returns : tie.Need-returns
+unfolding invRow
+returns c =
+    let over = sym (c .before .valid .ensures ∙ ap isValid (square-is (c .before .before))) ∙ not-true _ (c .if1 .taken) in
+    worked-over _ _ _ _ (inverse-over _ over _)
+
+inverse-spectrum-requires : tie.Need-inverse-spectrum-requires
+inverse-spectrum-requires c κs =
+    let inverse = c .before .before .before .before .before in
+    let pre = start inverse .pre in
+    (refers-inside (pre .1) (pre .0), inverse-is inverse)
+
+scaled-requires : tie.Need-scaled-requires
+scaled-requires c κs =
+    let test = c .before .before .before .before .before in
+    let pre = start (test .before .before .before) .pre in
+    let v = square-valid test in
+    (refers-inside (pre .1) (pre .0), (refers-valid (pre .1), ap isValid (c .negated .ensures ∙ negOf-is _ v) ∙ neg-valid _ v))
+
+settle-requires : tie.Need-settle-requires
+settle-requires c κs = (head-start c .pre .0, slopes-tell _ _ (c .before .before .scaled .ensures))
+
+returns-2 : tie.Need-returns-2
+unfolding invRow
+returns-2 c =
+    let slopes = c .before .before .before in
+    let negated = slopes .before in
+    let spectra = negated .before .before in
+    let test = spectra .before .before .before in
+    let power = test .before .before in
+    let value = power .before .before in
+    let support = value .before .before .support .ensures in
+    let s = start (power .before) in
+    let v = square-valid test in
+    let g = at (gradientAt (now (s .args .t)) (s .args .i)) in
+    worked _ _
+    (record { value = inverse-is (power .before); spectrum = spectra .inverse-spectrum .ensures; support = support; nonlinear = support })
+    _
+    (λ a.
+    ap (λ (q : Range). productOf q (g a)) (negated .negated .ensures)
+    ∙ product-negated _ (g a) v
+    ∙ ap (λ (q : Range). negOf (productOf q (g a))) (square-is power))
+    (λ a o. zero-inverse _ _ (sym (ap isValid (square-is power)) ∙ v) (s .pre .1 .fine .flat a o))
+    _ _ _ _ _ _ _ (slopes .scaled .ensures) (c .settle .ensures)
+
+pub inv-spec : {M : Type 1} → statement M
+inv-spec =
+    tie.close
+    (tie.spec
+    (λ c κs. search needs)
+    (λ c κs. search needs)
+    (λ c κs. search needs)
+    (λ c κs. search needs)
+    (λ c κs. search needs)
+    returns
+    inverse-spectrum-requires
+    (λ c κs. search needs)
+    scaled-requires
+    settle-requires
+    returns-2)

@@ -1,0 +1,201 @@
+// The run over the lines of a codelist, and the refusals of rating.
+ghost use mathlib.Core.Path.{_≡_};
+ghost use mathlib.Core.Bool.{true};
+ghost use mathlib.Core.List.{List};
+ghost use Prim.Native.Nat.{ℕ, _-_, _≤_, _<_};
+ghost use lib.ListN.{length, getD};
+ghost use Rattle.range.specs.Limit.{zeroRange};
+ghost use Rattle.range.specs.Arithmetic.{holdsZero};
+ghost use Rattle.codelist.specs.Codelist.{WellFormedOp, Ratable};
+ghost use Rattle.rules.specs.Run.{eachValid, rowOf, invertsZero, factorLines, linesOf};
+ghost use Rattle.rules.specs.Rate.{limitsOf, rated, refused, pairs, firstBad, finished, rateOf};
+ghost use Rattle.bounds.specs.Table.{lineAt, linesUpTo, Ready, Worked, Started};
+use super::rows;
+use super::spectrum;
+use super::table;
+use codelist::Codelist;
+use codelist::Op;
+use range::Range;
+use rules::Limits;
+use rules::Outcome;
+use rules::Rating;
+use rules::Refusal;
+
+// "A refusal carries number and place, every other field is 0"
+const NO_LIMITS: Limits = Limits {
+    value: Range::ZERO,
+    gradient: [Range::ZERO; 8],
+    support: 0,
+    nonlinear: 0,
+    spectrum: Range::ZERO,
+    full: Range::ZERO,
+};
+
+fn refuse(r: Refusal) -> Rating
+    ensures { λ a. ⌜ a ≡ refused r ⌝ }
+{
+    let limits = NO_LIMITS;
+    Rating {
+        outcome: Outcome::Refused(r),
+        limits: limits,
+    }
+}
+
+// The result is that of the line k, with its spectrum extended to all n factors besides.
+fn result(t: &[i32; 1280], s: &[u8; 128], n: u8, k: usize) -> Rating
+    requires { ⌜ n ≤ 8 ⌝ }
+    requires { ⌜ k < 64 ⌝ }
+    ensures { λ a. ⌜ a ≡ rated (limitsOf n (lineAt (now (t .entry)) (now (s .entry)) k)) ⌝ }
+{
+    let value = table::value(t, k);
+    let gradient = table::gradient(t, k);
+    let spectrum = table::spectrum(t, k);
+    let nonlinear = table::nonlinear(s, k);
+    let all = ((1u16 << n) - 1) as u8;
+    let full = spectrum::extended(spectrum, nonlinear, all);
+    let limits = Limits {
+        value: value,
+        gradient: gradient,
+        support: table::support(s, k),
+        nonlinear: nonlinear,
+        spectrum: spectrum,
+        full: full,
+    };
+    Rating {
+        outcome: Outcome::Rated,
+        limits: limits,
+    }
+}
+
+// low ≤ 0 ≤ high.
+fn holds_zero(r: Range) -> bool
+    ensures { λ b. ⌜ b ≡ holdsZero r ⌝ }
+{
+    (r.low <= 0) & (0 <= r.high)
+}
+
+// The range of the factor a, counted from 0.
+fn range_at(xs: &[i64], a: usize) -> Range
+    requires { ⌜ a < length (pairs (now xs)) ⌝ }
+    ensures { λ r. ⌜ r ≡ getD (pairs (now (xs .entry))) a zeroRange ⌝ }
+{
+    Range::new(xs[2 * a], xs[2 * a + 1])
+}
+
+// The lowest factor, counted from 1, whose range is not valid; 0 if there is none.
+fn first_bad(xs: &[i64], n: u8) -> u8
+    requires { ⌜ length (pairs (now xs)) ≡ n ⌝ }
+    ensures { λ r. ⌜ r ≡ firstBad 1 (pairs (now (xs .entry))) ⌝ }
+{
+    let mut a: u8 = 0;
+    while a < n {
+        if !range_at(xs, a as usize).valid() {
+            return a + 1;
+        }
+        a += 1;
+    }
+    0
+}
+
+// Where the codelist line i, counted from 1, stands in the table.
+fn index(i: u8) -> usize
+    requires { ⌜ (1 ≤ i) × (i ≤ 64) ⌝ }
+    ensures { λ r. ⌜ (r ≡ i - 1) × (r < 64) ⌝ }
+{
+    i as usize - 1
+}
+
+// The lines of the n factors.
+fn start(t: &mut [i32; 1280], s: &mut [u8; 128], xs: &[i64], n: usize)
+    requires { ⌜ Ready (now t) (now s) 0 ⌝ }
+    requires { ⌜ length (pairs (now xs)) ≡ n ⌝ }
+    requires { ⌜ n ≤ 8 ⌝ }
+    requires { ⌜ eachValid (pairs (now xs)) ≡ true ⌝ }
+    ensures { λ _. ⌜ Started (factorLines 0 (pairs (now (xs .entry)))) n (now (t .exit)) (now (s .exit)) ⌝ }
+{
+    let mut k: usize = 0;
+    while k < n {
+        rows::factor(t, s, k, range_at(xs, k));
+        k += 1;
+    }
+}
+
+// Refusal 11: whether the operation inverts a range that holds 0.
+fn inverts_zero(t: &[i32; 1280], op: Op, k: usize) -> bool
+    requires { ⌜ WellFormedOp k op ⌝ }
+    requires { ⌜ k < 64 ⌝ }
+    ensures { λ r. ⌜ ((s : List ℕ) → r ≡ invertsZero op (linesUpTo (now (t .entry)) s k)) ⌝ }
+{
+    match op {
+        Op::Inv(i) => holds_zero(table::value(t, index(i))),
+        Op::Add(_, _) => false,
+        Op::Mul(_, _) => false,
+        Op::AddC(_, _) => false,
+        Op::MulC(_, _) => false,
+        Op::Pow(_, _) => false,
+    }
+}
+
+// The line k, counted from 0, of its operation. The answer is whether all its ranges are valid.
+fn work(t: &mut [i32; 1280], s: &mut [u8; 128], op: Op, k: usize) -> bool
+    requires { ⌜ WellFormedOp k op ⌝ }
+    requires { ⌜ Ready (now t) (now s) k ⌝ }
+    requires { ⌜ k < 64 ⌝ }
+    ensures { λ r. ⌜ Worked
+        (rowOf op (linesUpTo (now (t .entry)) (now (s .entry)) k))
+        (now (t .entry)) (now (s .entry)) k r (now (t .exit)) (now (s .exit)) ⌝ }
+{
+    match op {
+        Op::Add(i, j) => rows::add(t, s, index(i), index(j), k),
+        Op::Mul(i, j) => rows::mul(t, s, index(i), index(j), k),
+        Op::AddC(i, c) => rows::addc(t, s, index(i), c, k),
+        Op::MulC(i, c) => rows::mulc(t, s, index(i), c, k),
+        Op::Pow(i, m) => rows::pow(t, s, index(i), m, k),
+        Op::Inv(i) => rows::inv(t, s, index(i), k),
+    }
+}
+
+// The lines of the factors, then of the operations, in order; 11 before 12.
+fn run(c: Codelist, xs: &[i64]) -> Rating
+    requires { ⌜ Ratable c ⌝ }
+    requires { ⌜ length (pairs (now xs)) ≡ c .factors ⌝ }
+    requires { ⌜ eachValid (pairs (now xs)) ≡ true ⌝ }
+    ensures { λ r. ⌜ r ≡ finished (c .factors) (linesOf c (pairs (now (xs .entry)))) ⌝ }
+{
+    let n = c.factors as usize;
+    let end = n + c.count as usize;
+    let mut t = [0i32; 1280];
+    let mut s = [0u8; 128];
+    start(&mut t, &mut s, xs, n);
+    let mut k = n;
+    while k < end {
+        let entry = c.ops[k - n];
+        let op = entry.op;
+        if inverts_zero(&t, op, k) {
+            return refuse(Refusal::Divisor(k as u8 + 1));
+        }
+        if !work(&mut t, &mut s, op, k) {
+            return refuse(Refusal::Overflow(k as u8 + 1));
+        }
+        k += 1;
+    }
+    result(&t, &s, c.factors, end - 1)
+}
+
+// Rating: 10, 8, 9 (lowest factor), then the lines.
+pub(crate) fn answer(c: Codelist, xs: &[i64]) -> Rating
+    ensures { λ r. ⌜ r ≡ rateOf c (now (xs .entry)) ⌝ }
+{
+    if !codelist::is_ratable(c) {
+        return refuse(Refusal::NoCodelist);
+    }
+    let n = c.factors;
+    if xs.len() != 2 * (n as usize) {
+        return refuse(Refusal::RangeCount);
+    }
+    let bad = first_bad(xs, n);
+    if bad != 0 {
+        return refuse(Refusal::BadRange(bad));
+    }
+    run(c, xs)
+}
