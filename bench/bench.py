@@ -4,8 +4,8 @@
 bench/bench.py PATH_TO_RATE_MANY
 
 PATH N < SHEET loads the sheet once and rates it N times; bench/reference.c, built here with cc -O3, does the same. Both run in turn.
-Nanoseconds are the least processor time of all rounds, the ratio is the median of the rounds' own ratios. A run of one rating is taken off,
-so that starting and loading do not count.
+Nanoseconds are the least processor time of all rounds, and the ratio is that of the two: whatever else the machine does can only add to a time.
+A run of one rating is taken off, so that starting and loading do not count.
 """
 import os
 import shutil
@@ -20,7 +20,7 @@ from typing import NamedTuple
 
 BENCH = Path(__file__).resolve().parent
 SHEETS = BENCH / "sheets"
-ROUNDS = 12
+ROUNDS = 20
 LONG_RUN = 0.04  # seconds a long run should take
 
 
@@ -79,9 +79,8 @@ class Timed:
         self.long.append(used)
 
     def nanoseconds(self):
-        """Per rating, for each round."""
-        start = min(self.short)
-        return [max(used - start, 1e-9) / (self.times - 1) * 1e9 for used in self.long]
+        """Per rating."""
+        return max(min(self.long) - min(self.short), 1e-9) / (self.times - 1) * 1e9
 
 
 class Row(NamedTuple):
@@ -111,7 +110,7 @@ def measure(engine, plain, sheets):
     measured = []
     for ours, theirs in pairs:
         a, b = ours.nanoseconds(), theirs.nanoseconds()
-        measured.append((min(a), min(b), statistics.median(x / y for x, y in zip(a, b))))
+        measured.append((a, b, a / b))
     return measured
 
 

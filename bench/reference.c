@@ -258,9 +258,20 @@ static inline int inv_line(Line *z, const Line *x, unsigned px, unsigned bx) {
     return 0;
 }
 
-/* The lines after the factors' ones, which the caller has filled. Slopes outside a depends-on set are not written. */
-static __attribute__((noinline)) Refusal rate(const Sheet *s, Line *lines) {
+typedef struct { Range value, slopes[MOST_FACTORS], bend, full; uint8_t depends, bent; } Result;
+
+/* What is timed: a whole rating, from two numbers per factor to the result. Slopes outside a depends-on set are not written: the caller has
+   them 0. */
+static __attribute__((noinline)) Refusal rate(const Sheet *s, const int64_t *numbers, size_t count, Line *lines, Result *result) {
     const uint8_t *p = s->depends, *b = s->bent;
+    memset(result, 0, sizeof *result);
+    if (count != 2 * (size_t)s->factors) return (Refusal){8, 0};
+    for (int a = 0; a < s->factors; a++) {
+        Range r = {numbers[2 * a], numbers[2 * a + 1]};
+        if (r.low > r.high || passes(r)) return (Refusal){9, a + 1};
+        lines[a].value = r;
+        lines[a].slopes[a] = (Range){UNIT, UNIT};
+    }
     for (int k = s->factors; k < s->lines; k++) {
         const Operation *o = &s->operations[k];
         int i = o->i, j = o->j, refused = 0;
@@ -275,6 +286,14 @@ static __attribute__((noinline)) Refusal rate(const Sheet *s, Line *lines) {
         }
         if (refused) return (Refusal){refused, k + 1};
     }
+    const Line *last = &lines[s->lines - 1];
+    unsigned bent = s->bent[s->lines - 1];
+    result->value = last->value;
+    memcpy(result->slopes, last->slopes, sizeof result->slopes);
+    result->depends = s->depends[s->lines - 1];
+    result->bent = (uint8_t)bent;
+    result->bend = last->bend;
+    result->full = lift(last->bend, bent, (1u << s->factors) - 1);
     return (Refusal){0, 0};
 }
 
@@ -336,17 +355,10 @@ static Refusal load(Sheet *s, Text t) {
     return (Refusal){0, 0};
 }
 
-static Refusal box(const Sheet *s, Text t, Line *lines) {
-    int64_t low[MOST_FACTORS], high[MOST_FACTORS];
+static Refusal box(const Sheet *s, Text t, int64_t *numbers) {
     for (int a = 0; a < s->factors; a++)
-        if (!numeral(&t, &low[a]) || !field(&t, &high[a]) || !word(&t, "\n")) return (Refusal){8, 0};
-    if (t.at != t.end) return (Refusal){8, 0};
-    for (int a = 0; a < s->factors; a++) {
-        if (low[a] > high[a] || low[a] < -LIMIT || high[a] > LIMIT) return (Refusal){9, a + 1};
-        lines[a].value = (Range){low[a], high[a]};
-        lines[a].slopes[a] = (Range){UNIT, UNIT};
-    }
-    return (Refusal){0, 0};
+        if (!numeral(&t, &numbers[2 * a]) || !field(&t, &numbers[2 * a + 1]) || !word(&t, "\n")) return (Refusal){8, 0};
+    return t.at != t.end ? (Refusal){8, 0} : (Refusal){0, 0};
 }
 
 /* "The sheet ends before the first line `box` that has its byte 10; without one all is sheet." */
@@ -372,28 +384,28 @@ static void print_set(const char *name, unsigned set) {
     printf("\n");
 }
 
-static void print_result(const Sheet *s, const Line *line) {
-    unsigned bent = s->bent[s->lines - 1];
-    print_range("value", line->value);
-    for (int a = 0; a < s->factors; a++)
-        printf("slope\t%d\t%lld\t%lld\n", a + 1, (long long)line->slopes[a].low, (long long)line->slopes[a].high);
-    print_set("depends", s->depends[s->lines - 1]);
-    print_set("bent", bent);
-    print_range("bend", line->bend);
-    print_range("full", lift(line->bend, bent, (1u << s->factors) - 1));
+static void print_result(int factors, const Result *r) {
+    print_range("value", r->value);
+    for (int a = 0; a < factors; a++)
+        printf("slope\t%d\t%lld\t%lld\n", a + 1, (long long)r->slopes[a].low, (long long)r->slopes[a].high);
+    print_set("depends", r->depends);
+    print_set("bent", r->bent);
+    print_range("bend", r->bend);
+    print_range("full", r->full);
 }
 
-static Refusal run(Text input, long times, Sheet *s, Line *lines) {
+static Refusal run(Text input, long times, Sheet *s, Line *lines, Result *result) {
     if (input.end - input.at > MOST_INPUT) return (Refusal){1, 0};
     Text sheet, ranges;
     part(input, &sheet, &ranges);
     Refusal refusal = load(s, sheet);
     if (refusal.number) return refusal;
     if (!ranges.at) return (Refusal){8, 0};
-    refusal = box(s, ranges, lines);
+    int64_t numbers[2 * MOST_FACTORS];
+    refusal = box(s, ranges, numbers);
     while (!refusal.number && times-- > 0) {
-        refusal = rate(s, lines);
-        __asm__ volatile("" : : "r"(lines) : "memory"); /* each rating is done */
+        refusal = rate(s, numbers, 2 * (size_t)s->factors, lines, result);
+        __asm__ volatile("" : : "r"(result) : "memory"); /* each rating is done */
     }
     return refusal;
 }
@@ -402,10 +414,11 @@ int main(int count, char **arguments) {
     static char input[MOST_INPUT + 1];
     static Sheet sheet;
     static Line lines[MOST_LINES];
+    static Result result;
     size_t n = fread(input, 1, sizeof input, stdin);
     long times = count > 1 ? atol(arguments[1]) : 1;
-    Refusal refusal = run((Text){input, input + n}, times, &sheet, lines);
+    Refusal refusal = run((Text){input, input + n}, times, &sheet, lines, &result);
     if (refusal.number) printf("refused\t%d\t%d\n", refusal.number, refusal.place);
-    else print_result(&sheet, &lines[sheet.lines - 1]);
+    else print_result(sheet.factors, &result);
     return 0;
 }
