@@ -4,8 +4,8 @@
 bench/bench.py PATH_TO_RATE_MANY
 
 PATH N < SHEET loads the sheet once and rates it N times; bench/reference.c, built here with cc -O3, does the same. Both run in turn.
-Nanoseconds are the least processor time of all rounds, and the ratio is that of the two: whatever else the machine does can only add to a time.
-A run of one rating is taken off, so that starting and loading do not count.
+Nanoseconds are the least processor time of all rounds, and the ratio is that of the two; the median is that of the rounds' own ratios, which a busy
+machine moves. Both are printed, since they differ. A run of one rating is taken off, so that starting and loading do not count.
 """
 import os
 import shutil
@@ -79,8 +79,9 @@ class Timed:
         self.long.append(used)
 
     def nanoseconds(self):
-        """Per rating."""
-        return max(min(self.long) - min(self.short), 1e-9) / (self.times - 1) * 1e9
+        """Per rating, for each round."""
+        start = min(self.short)
+        return [max(used - start, 1e-9) / (self.times - 1) * 1e9 for used in self.long]
 
 
 class Row(NamedTuple):
@@ -89,6 +90,7 @@ class Row(NamedTuple):
     engine: float
     plain: float
     ratio: float
+    median: float
 
 
 def shape(sheet):
@@ -99,7 +101,7 @@ def shape(sheet):
 
 
 def measure(engine, plain, sheets):
-    """For each sheet the nanoseconds of the engine and of the C program, and their ratio. All run in turn: a slow minute hits all alike."""
+    """For each sheet the nanoseconds of the engine and of the C program, and their ratios. All run in turn: a slow minute hits all alike."""
     pairs = [(Timed(engine, sheet), Timed(plain, sheet)) for sheet in sheets]
     for _ in range(ROUNDS):
         for ours, theirs in pairs:
@@ -110,17 +112,17 @@ def measure(engine, plain, sheets):
     measured = []
     for ours, theirs in pairs:
         a, b = ours.nanoseconds(), theirs.nanoseconds()
-        measured.append((a, b, a / b))
+        measured.append((min(a), min(b), min(a) / min(b), statistics.median(x / y for x, y in zip(a, b))))
     return measured
 
 
 def table(title, sheets, engine, plain):
-    print(f"\n{title}\n{'sheet':<20}{'factors':>8}{'lines':>7}{'engine ns':>12}{'C ns':>10}{'ratio':>8}", flush=True)
+    print(f"\n{title}\n{'sheet':<20}{'factors':>8}{'lines':>7}{'engine ns':>12}{'C ns':>10}{'ratio':>8}{'median':>8}", flush=True)
     rows = []
-    for sheet, (ours, theirs, ratio) in zip(sheets, measure(engine, plain, sheets)):
+    for sheet, (ours, theirs, ratio, median) in zip(sheets, measure(engine, plain, sheets)):
         factors, lines = shape(sheet)
-        print(f"{sheet.stem:<20}{factors:>8}{lines:>7}{ours:>12.0f}{theirs:>10.0f}{ratio:>8.2f}")
-        rows.append(Row(factors, lines, ours, theirs, ratio))
+        print(f"{sheet.stem:<20}{factors:>8}{lines:>7}{ours:>12.0f}{theirs:>10.0f}{ratio:>8.2f}{median:>8.2f}")
+        rows.append(Row(factors, lines, ours, theirs, ratio, median))
     return rows
 
 
@@ -145,7 +147,8 @@ def main():
         by_factors = [sheet for sheet in all_sheets if sheet.stem.startswith("growth-factors-")]
 
         rows = table("Classes, nanoseconds per rating", classes, engine, plain)
-        print(f"  geometric mean of the ratios: {exp(statistics.fmean(log(row.ratio) for row in rows)):.2f}")
+        for name in ("ratio", "median"):
+            print(f"  geometric mean of the {name}s: {exp(statistics.fmean(log(getattr(row, name)) for row in rows)):.2f}")
         fits(table("Growth with the lines, 4 factors", by_lines, engine, plain), "lines")
         fits(table("Growth with the factors, 32 lines", by_factors, engine, plain), "factors")
 
