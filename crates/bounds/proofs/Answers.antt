@@ -1,6 +1,6 @@
 -- The answer of rating, by the tests that led to it. Assumes nothing.
 use mathlib.Core.Path.{_≡_, refl, sym, ap, _∙_}
-use mathlib.Core.Bool.{true, false}
+use mathlib.Core.Bool.{Bool, true, false, cond}
 use mathlib.Core.List.{List}
 use Prim.Native.Nat.{ℕ, zero, suc, _*_}
 use borrow.Author.Tests.{eq-eqb, ne-eqb}
@@ -8,6 +8,7 @@ use lib.IntN.{ℤ}
 use lib.ListN.{length}
 use Rattle.codelist.specs.declared.Codelist.{Codelist}
 use Rattle.codelist.specs.Codelist.{ratable}
+use Rattle.rules.specs.declared.Refusal.{Refusal}
 use Rattle.rules.specs.declared.Refusal.the-variants.{NoCodelist, RangeCount, BadRange}
 use Rattle.rules.specs.Run.{linesOf}
 use Rattle.rules.specs.Rate.{refused, finished, pairs, firstBad, rateRanges, rateOf}
@@ -17,6 +18,14 @@ module _ (c : Codelist) (xs : List ℤ) where
   pub no-codelist : ratable c ≡ false → refused NoCodelist ≡ rateOf c xs
   unfolding rateOf
   no-codelist e = rw e
+
+  -- a refusal that comes first only where the codelist can be rated
+  pub or-no-codelist : (r : Refusal) → (ratable c ≡ true → refused r ≡ rateOf c xs) → cond (ratable c) (refused r) (refused NoCodelist) ≡ rateOf c xs
+  or-no-codelist r f = go (ratable c) refl
+    where
+      go : (b : Bool) → ratable c ≡ b → cond b (refused r) (refused NoCodelist) ≡ rateOf c xs
+      go true e = f e
+      go false e = no-codelist e
 
   module _ (w : ratable c ≡ true) where
     -- 8

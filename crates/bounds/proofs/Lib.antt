@@ -8,6 +8,7 @@ pub mod Filling
 pub mod Storing
 pub mod Zeros
 pub mod Signs
+pub mod Heads
 pub mod Working
 pub mod Factors
 pub mod Ranges

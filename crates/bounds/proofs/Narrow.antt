@@ -1,23 +1,27 @@
--- The ends of a valid range as numbers of 32 bits. Assumes nothing.
+-- The ends of what an operation gives, a valid range or `over`, as numbers of 32 bits. Assumes nothing.
 use mathlib.Core.Path.{_≡_, _∙_}
-use mathlib.Core.Bool.{true}
+use mathlib.Core.Logic.{inl, inr}
+use native.Mathlib.Omega.{arith}
+use lib.IntN.{ℤ}
 use mir.Syntax.{w32, w64}
 use mir.Val.{SFits, toZ, ofZ}
 use mir.ValLaws.{toZ-ofZ}
+use Rattle.exact.proofs.Machine.{fits-abs}
 use Rattle.range.specs.declared.Range.{Range}
-use Rattle.range.specs.Limit.{isValid}
-use Rattle.range.proofs.Fitting.{low-within, high-within, low-read, high-read, fits-narrow}
+use Rattle.range.specs.Laws.{Settled}
+use Rattle.range.proofs.Fitting.{Within, low-within, high-within, fits-narrow}
 
-module _ (r : Range) (v : isValid r ≡ true) where
-  pub low-narrow : SFits w32 (toZ w64 (ofZ w64 (r .low)))
-  low-narrow = rw (low-read r v) (fits-narrow (r .low) (low-within r v))
+pub ends-within : (r : Range) → Settled r → Within (r .low) × Within (r .high)
+ends-within r (inl v) = (low-within r v, high-within r v)
+ends-within r (inr e) = rw e (omega arith, omega arith)
 
-  pub high-narrow : SFits w32 (toZ w64 (ofZ w64 (r .high)))
-  high-narrow = rw (high-read r v) (fits-narrow (r .high) (high-within r v))
+module _ (z : ℤ) (h : Within z) where
+  read : toZ w64 (ofZ w64 z) ≡ z
+  read = toZ-ofZ w64 z (fits-abs z (omega (arith, h)))
 
-  -- as they are read from the table
-  pub low-narrowed : toZ w32 (ofZ w32 (toZ w64 (ofZ w64 (r .low)))) ≡ r .low
-  low-narrowed = toZ-ofZ w32 (toZ w64 (ofZ w64 (r .low))) low-narrow ∙ low-read r v
+  pub narrow : SFits w32 (toZ w64 (ofZ w64 z))
+  narrow = rw read (fits-narrow z h)
 
-  pub high-narrowed : toZ w32 (ofZ w32 (toZ w64 (ofZ w64 (r .high)))) ≡ r .high
-  high-narrowed = toZ-ofZ w32 (toZ w64 (ofZ w64 (r .high))) high-narrow ∙ high-read r v
+  -- as it is read from the table
+  pub narrowed : toZ w32 (ofZ w32 (toZ w64 (ofZ w64 z))) ≡ z
+  narrowed = toZ-ofZ w32 (toZ w64 (ofZ w64 z)) narrow ∙ read

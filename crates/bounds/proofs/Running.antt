@@ -3,21 +3,22 @@ use mathlib.Core.Path.{_≡_, refl, sym, ap, ap₂, subst, _∙_}
 use mathlib.Core.Bool.{Bool, true, false, cond}
 use mathlib.Core.List.{List, [], _∷_, _++_}
 use mathlib.Core.Logic.{_⊎_, inl, inr}
-use Prim.Native.Nat.{ℕ, zero, suc, _+_, _-_, _≤_, _<_}
+use Prim.Native.Nat.{ℕ, zero, suc, _+_, _-_, _*_, _≤_, _<_}
 use native.Mathlib.Nat as N
 use native.Mathlib.Numerals.{add-one}
 use native.Mathlib.Omega.{arith}
 use borrow.Author.Count.{below-more}
-use lib.IntN.{ℤ}
-use lib.ListN.{length, getD, drop, drop-of-length-le}
-use lib.Seq.{drop-cons, getD-take}
+use lib.IntN.{ℤ, pos}
+use lib.ListN.{length, getD, drop, replicate, drop-of-length-le}
+use lib.Seq.{drop-cons, getD-take, length-take-le}
 use Rattle.range.specs.declared.Range.{Range}
 use Rattle.range.specs.Arithmetic.{holdsZero}
 use Rattle.codelist.specs.declared.Op.{Op}
 use Rattle.codelist.specs.declared.Op.the-variants.{Inv}
 use Rattle.codelist.specs.declared.Entry.{Entry}
 use Rattle.codelist.specs.declared.Codelist.{Codelist}
-use Rattle.codelist.specs.Codelist.{blank, Earlier, WellFormedOp, Ratable}
+use Rattle.codelist.specs.Codelist.{Earlier, WellFormedOp, wellFormedOp, wellFormedOps, inBounds, ratable}
+use Rattle.codelist.proofs.WellFormed.{op-sound}
 use Rattle.codelist.proofs.Ratable as W
 use Rattle.rules.specs.declared.Line.{Line}
 use Rattle.rules.specs.declared.Refusal.the-variants.{Divisor, Overflow}
@@ -25,13 +26,9 @@ use Rattle.rules.specs.Table.{Row, lineOf}
 use Rattle.rules.specs.Run.{noLine, line, rowOf, invertsZero, within, Lines, stopped, runOps, factorLines, operations, linesOf}
 use Rattle.rules.specs.Rate.{last, limitsOf, rated, refused, finished}
 use Rattle.bounds.specs.Terms.{Fine}
-use Rattle.bounds.specs.Table.{valueAt, lineAt, Refers, linesUpTo, Ready, Started, Placed, Worked}
-
--- within a list the default does not matter
-pub getD-any : {A : Type 0} (l : List A) (k : ℕ) (d e : A) → k < length l → getD l k d ≡ getD l k e
-getD-any [] k d e h = absurd (N.not-suc-le-zero h)
-getD-any (x ∷ l) zero d e h = refl
-getD-any (x ∷ l) (suc k) d e h = getD-any l k d e (N.le-of-suc-le-suc h)
+use Rattle.bounds.specs.declared.slopes.Slopes.{Slopes}
+use Rattle.bounds.specs.Table.{valueAt, gradientAt, lineAt, Refers, linesUpTo, Ready, Started, Placed, Worked}
+use Rattle.bounds.proofs.Pairs.{same-ranges}
 
 -- ---- the first lines of a table
 module _ (t : List ℤ) (s : List ℕ) where
@@ -91,7 +88,7 @@ pub indexed : (k j : ℕ) → k < 64 → Earlier k j → (1 ≤ j) × (j ≤ 64)
 indexed k j h r = (r .0, omega (arith, r))
 
 -- a row of the lines that stand in the table is one of the lines before
-module _ {t : List ℤ} {s : List ℕ} {k : ℕ} {ok : Bool} {u : List ℤ} {v : List ℕ} where
+module _ {t : List ℤ} {s : List ℕ} {k : ℕ} {ok : Slopes} {u : List ℤ} {v : List ℕ} where
   pub worked-of : {A : Type 0} (row : Line → A → Row) (a : A) (j m : ℕ) → Earlier k j → m ≡ j - 1
       → Worked (row (lineAt t s m) a) t s k ok u v → Worked (row (line (linesUpTo t s k) j) a) t s k ok u v
   worked-of row a j m r e = subst (λ (x : Line). Worked (row x a) t s k ok u v) (refers-to t s k j m r e)
@@ -111,9 +108,17 @@ module _ (t : List ℤ) (s : List ℕ) (k : ℕ) (i : Ready t s k) where
   pub refers : (j m : ℕ) → Earlier k j → m ≡ j - 1 → Refers t s m k
   refers j m r e = record { earlier = omega (arith, r); fine = i .fine m (omega (arith, r)) }
 
--- an empty table
-pub ready-none : (t : List ℤ) (s : List ℕ) → Ready t s 0
-ready-none t s = record { fine = λ j h. absurd (omega arith) }
+-- an empty table: no line is there, and no slope is written
+pub ready-none : (n : ℕ) (s : List ℕ) → Ready (replicate n (pos 0)) s 0
+ready-none n s = record {
+  fine = λ j h. absurd (omega arith);
+  blank = λ j h. same-ranges (replicate n (pos 0)) [] (20 * j + 4) (λ m l q. zeros n m);
+}
+  where
+    zeros : (n m : ℕ) → getD (replicate n (pos 0)) m (pos 0) ≡ pos 0
+    zeros zero m = refl
+    zeros (suc n) zero = refl
+    zeros (suc n) (suc m) = zeros n m
 
 -- the table after the line k has been worked out
 module _ {t : List ℤ} {s : List ℕ} {u : List ℤ} {v : List ℕ} (k : ℕ) (l : Line) (i : Ready t s k) (p : Placed l t s k u v) where
@@ -123,6 +128,7 @@ module _ {t : List ℤ} {s : List ℕ} {u : List ℤ} {v : List ℕ} (k : ℕ) (
   pub ready-more : Fine l → Ready u v (k + 1)
   ready-more f = record {
     fine = below-more _ _ (λ j h. subst Fine (sym (same-before j h)) (i .fine j h)) (subst Fine (sym (p .line)) f);
+    blank = λ j h. ap (λ (x : Line). x .gradient) (p .others j (λ e. omega arith)) ∙ i .blank j (omega arith);
   }
 
   pub lines-more : linesUpTo u v (k + 1) ≡ linesUpTo t s k ++ (l ∷ [])
@@ -132,118 +138,174 @@ module _ {t : List ℤ} {s : List ℕ} {u : List ℤ} {v : List ℕ} (k : ℕ) (
       ∙ ap₂ (λ (ls : List Line) (x : Line). ls ++ (x ∷ [])) (up-to-same u v t s k same-before) (p .line)
 
 -- ---- the lines of the operations
+-- what is known once the counts have been tested
+pub record Counted (c : Codelist) : Type 0 where
+  pub fits : inBounds c ≡ true
+  pub array : length (c .ops) ≡ 64
+
+module _ {c : Codelist} (n : Counted c) where
+  pub counts : W.Counts c
+  counts = W.counts c (n .fits)
+
+  enough : c .count ≤ length (c .ops)
+  enough = omega (arith, n .array, counts .few)
+
+  all-long : length (operations c) ≡ c .count
+  all-long = length-take-le (c .count) (c .ops) enough
+
+-- g are the slopes of the line before k, where that is one of an operation
 module _ (c : Codelist) (rs : List Range) where
-  pub record Ran (t : List ℤ) (s : List ℕ) (k : ℕ) : Type 0 where
+  pub record Ran (t : List ℤ) (s : List ℕ) (g : List Range) (k : ℕ) : Type 0 where
     pub from : c .factors ≤ k
     pub upto : k ≤ c .factors + c .count
     pub ready : Ready t s k
+    pub slopes : c .factors < k → g ≡ gradientAt t (k - 1)
     pub todo : runOps (drop (k - c .factors) (operations c)) (linesUpTo t s k) ≡ linesOf c rs
+    pub untested : wellFormedOps (c .factors + (k - c .factors)) (drop (k - c .factors) (operations c)) ≡ ratable c
 
-  pub ran-start : (t : List ℤ) (s : List ℕ) (k : ℕ) → k ≡ c .factors → Started (factorLines 0 rs) k t s → Ran t s k
+  pub ran-start : (t : List ℤ) (s : List ℕ) (g : List Range) (k : ℕ) → Counted c → k ≡ c .factors → Started (factorLines 0 rs) k t s → Ran t s g k
   unfolding linesOf
-  ran-start t s k e i =
+  ran-start t s g k n e i =
       let none : k - c .factors ≡ 0 = omega arith in
+      let all : c .factors + (k - c .factors) ≡ c .factors = omega arith in
       record {
         from = omega arith;
         upto = omega arith;
         ready = i .ready;
+        slopes = λ h. absurd (omega arith);
         todo = ap₂ (λ (j : ℕ) (l : List Line). runOps (drop j (operations c)) l) none (i .lines);
+        untested = ap₂ (λ (j m : ℕ). wellFormedOps m (drop j (operations c))) none all ∙ W.by-operations c (n .fits) (n .array);
       }
 
-  -- no operation is left
-  pub ran-end : (t : List ℤ) (s : List ℕ) (k : ℕ) → Ratable c → Ran t s k → c .factors + c .count ≤ k
-      → rated (limitsOf (c .factors) (lineAt t s (c .factors + c .count - 1))) ≡ finished (c .factors) (linesOf c rs)
+-- ---- the end
+-- no operation is left
+pub record Ended (c : Codelist) (rs : List Range) (t : List ℤ) (s : List ℕ) (g : List Range) (k : ℕ) : Type 0 where
+  pub counted : Counted c
+  pub ran : Ran c rs t s g k
+  pub none : c .factors + c .count ≤ k
+
+module _ {c : Codelist} {rs : List Range} {t : List ℤ} {s : List ℕ} {g : List Range} {k : ℕ} (p : Ended c rs t s g k) where
+  -- the last line is that of an operation
+  pub final : c .factors < k
+  final = omega (arith, counts (p .counted) .some, p .none)
+
+  pub final-inside : k - 1 < 64
+  final-inside = omega (arith, counts (p .counted) .few, p .ran .upto, final)
+
+  pub final-fine : Fine (lineAt t s (k - 1))
+  final-fine = p .ran .ready .fine (k - 1) (omega (arith, final))
+
+  pub final-slopes : g ≡ gradientAt t (k - 1)
+  final-slopes = p .ran .slopes final
+
+  pub ran-ratable : ratable c ≡ true
+  ran-ratable =
+      sym (p .ran .untested)
+      ∙ W.ops-end (c .factors) (c .count) (c .ops) (enough (p .counted)) (k - c .factors) (omega (arith, p .none))
+
+  pub ran-end : rated (limitsOf (c .factors) (lineAt t s (k - 1))) ≡ finished (c .factors) (linesOf c rs)
   unfolding runOps
-  ran-end t s k w i h =
-      let none : length (operations c) ≤ k - c .factors = omega (arith, W.taken c w) in
-      let end = c .factors + c .count - 1 in
-      let e : k ≡ suc end = omega (arith, i .upto, w .some) in
+  ran-end =
+      let none : length (operations c) ≤ k - c .factors = omega (arith, all-long (p .counted), p .none) in
       let all = ap (λ (os : List Entry). runOps os (linesUpTo t s k)) (drop-of-length-le (operations c) none) in
-      ap (λ (l : Line). rated (limitsOf (c .factors) l)) (sym (ap (λ (n : ℕ). last (linesUpTo t s n)) e ∙ up-to-last t s end))
-      ∙ ap (finished (c .factors)) (sym all ∙ i .todo)
+      let e : k ≡ suc (k - 1) = omega (arith, final) in
+      ap (λ (l : Line). rated (limitsOf (c .factors) l)) (sym (ap (λ (n : ℕ). last (linesUpTo t s n)) e ∙ up-to-last t s (k - 1)))
+      ∙ ap (finished (c .factors)) (sym all ∙ p .ran .todo)
 
 -- ---- a turn
--- the operation of line k, counted from 0
-abbrev pub opAt : Codelist → ℕ → Op
-opAt c k = getD (c .ops) (k - c .factors) blank .op
-
 -- an operation is left
-pub record Going (c : Codelist) (rs : List Range) (t : List ℤ) (s : List ℕ) (k : ℕ) : Type 0 where
-  pub sound : Ratable c
-  pub ran : Ran c rs t s k
+pub record Going (c : Codelist) (rs : List Range) (t : List ℤ) (s : List ℕ) (g : List Range) (k : ℕ) : Type 0 where
+  pub counted : Counted c
+  pub ran : Ran c rs t s g k
   pub more : k < c .factors + c .count
 
-module _ {c : Codelist} {rs : List Range} {t : List ℤ} {s : List ℕ} {k : ℕ} (p : Going c rs t s k) where
+module _ {c : Codelist} {rs : List Range} {t : List ℤ} {s : List ℕ} {g : List Range} {k : ℕ} (p : Going c rs t s g k) where
   pub inside : k < 64
-  inside = omega (arith, p .more, p .sound .few)
+  inside = omega (arith, p .more, counts (p .counted) .few)
 
-  -- the operation as the code reads it
-  pub known : (d : Entry) → getD (c .ops) (k - c .factors) d .op ≡ opAt c k
-  known d =
-      ap (λ (x : Entry). x .op)
-      (getD-any (c .ops) (k - c .factors) d blank (omega (arith, W.array c (p .sound), p .sound .few, p .ran .from, p .more)))
+  -- its index, and that of the next one
+  room : k - c .factors < c .count
+  room = omega (arith, p .ran .from, p .more)
 
-  pub well : (d : Entry) → WellFormedOp k (getD (c .ops) (k - c .factors) d .op)
-  well d =
-      let at : c .factors + (k - c .factors) ≡ k = omega (arith, p .ran .from) in
-      subst (λ (n : ℕ). WellFormedOp n (getD (c .ops) (k - c .factors) d .op)) at
-      (W.operation c (p .sound) d (k - c .factors) (omega (arith, p .ran .from, p .more)))
+  at : c .factors + (k - c .factors) ≡ k
+  at = omega (arith, p .ran .from)
 
-  next : drop (k - c .factors) (operations c) ≡ (getD (c .ops) (k - c .factors) blank ∷ drop (k + 1 - c .factors) (operations c))
-  next =
-      let room : k - c .factors < c .count = omega (arith, p .ran .from, p .more) in
-      let q : k + 1 - c .factors ≡ suc (k - c .factors) = omega (arith, p .ran .from) in
-      drop-cons (operations c) (k - c .factors) blank (omega (arith, W.taken c (p .sound)))
-      ∙ ap₂ (λ (o : Entry) (n : ℕ). o ∷ drop n (operations c)) (getD-take (c .count) (c .ops) (k - c .factors) blank room) (sym q)
+  after : k + 1 - c .factors ≡ k - c .factors + 1
+  after = omega (arith, p .ran .from)
 
   abbrev before : List Line
   before = linesUpTo t s k
 
-  -- the two tests of a turn, of the operation as the code reads it
-  pub inverts : (d : Entry) (b : Bool) → ((r : List ℕ) → b ≡ invertsZero (getD (c .ops) (k - c .factors) d .op) (linesUpTo t r k))
-      → b ≡ invertsZero (opAt c k) before
-  inverts d b e = e s ∙ ap (λ (o : Op). invertsZero o before) (known d)
+  -- the operation as the code reads it, which past the array's end would be d
+  module _ (d : Entry) where
+    abbrev op : Op
+    op = getD (c .ops) (k - c .factors) d .op
 
-  pub worked : (d : Entry) (ok : Bool) (u : List ℤ) (v : List ℕ) → Worked (rowOf (getD (c .ops) (k - c .factors) d .op) before) t s k ok u v
-      → Worked (rowOf (opAt c k) before) t s k ok u v
-  worked d ok u v = subst (λ (o : Op). Worked (rowOf o before) t s k ok u v) (known d)
+    -- 10
+    module _ (b : Bool) (e : b ≡ wellFormedOp k op) where
+      tested : wellFormedOp (c .factors + (k - c .factors)) op ≡ b
+      tested = ap (λ (m : ℕ). wellFormedOp m op) at ∙ sym e
 
-  abbrev new : Line
-  new = lineOf (rowOf (opAt c k) before)
+      pub ran-no-codelist : b ≡ false → ratable c ≡ false
+      ran-no-codelist f =
+          sym (p .ran .untested)
+          ∙ W.ops-fail (c .factors) (c .count) (c .ops) (enough (p .counted)) (k - c .factors) d room (tested ∙ f)
 
-  -- what the operation leads to, as line n, counted from 1
-  abbrev outcome : ℕ → Lines
-  outcome n =
-      cond (invertsZero (opAt c k) before) (stopped (Divisor n))
-      (cond (within new) (runOps (drop (k + 1 - c .factors) (operations c)) (before ++ (new ∷ []))) (stopped (Overflow n)))
+      pub well : b ≡ true → WellFormedOp k op
+      well f = op-sound k op (sym e ∙ f)
 
-  step : linesOf c rs ≡ outcome (k + 1)
-  unfolding runOps
-  step =
-      sym (p .ran .todo)
-      ∙ ap (λ (os : List Entry). runOps os before) next
-      ∙ ap outcome (ap suc (up-to-long t s k) ∙ sym (add-one k))
+      passed : b ≡ true → wellFormedOps (c .factors + (k + 1 - c .factors)) (drop (k + 1 - c .factors) (operations c)) ≡ ratable c
+      passed f =
+          ap (λ (m : ℕ). wellFormedOps (c .factors + m) (drop m (operations c))) after
+          ∙ W.ops-pass (c .factors) (c .count) (c .ops) (enough (p .counted)) (k - c .factors) d room (tested ∙ f)
+          ∙ p .ran .untested
 
-  -- 11
-  pub ran-divisor : invertsZero (opAt c k) before ≡ true → refused (Divisor (k + 1)) ≡ finished (c .factors) (linesOf c rs)
-  ran-divisor z =
-      let e : linesOf c rs ≡ stopped (Divisor (k + 1)) = step ∙ rw z in
-      ap (finished (c .factors)) (sym e)
+    next : drop (k - c .factors) (operations c) ≡ (getD (c .ops) (k - c .factors) d ∷ drop (k + 1 - c .factors) (operations c))
+    next =
+        drop-cons (operations c) (k - c .factors) d (omega (arith, room, all-long (p .counted)))
+        ∙ ap₂ (λ (o : Entry) (n : ℕ). o ∷ drop n (operations c)) (getD-take (c .count) (c .ops) (k - c .factors) d room)
+        (sym (after ∙ add-one (k - c .factors)))
 
-  module _ (ok : Bool) (u : List ℤ) (v : List ℕ) (apart : invertsZero (opAt c k) before ≡ false) (w : Worked (rowOf (opAt c k) before) t s k ok u v) where
-    -- 12
-    pub ran-overflow : ok ≡ false → refused (Overflow (k + 1)) ≡ finished (c .factors) (linesOf c rs)
-    ran-overflow e =
-        let r : linesOf c rs ≡ stopped (Overflow (k + 1)) = step ∙ rw (apart, sym (w .tells) ∙ e) in
-        ap (finished (c .factors)) (sym r)
+    abbrev new : Line
+    new = lineOf (rowOf op before)
 
-    pub ran-more : ok ≡ true → Ran c rs u v (k + 1)
-    ran-more e =
-        let placed : Placed new t s k u v = record { line = w .line e; others = w .others } in
-        record {
-          from = omega (arith, p .ran .from);
-          upto = omega (arith, p .more);
-          ready = ready-more k new (p .ran .ready) placed (w .fine e);
-          todo = ap (runOps (drop (k + 1 - c .factors) (operations c))) (lines-more k new (p .ran .ready) placed)
-              ∙ sym (step ∙ rw (apart, sym (w .tells) ∙ e));
-        }
+    -- what the operation leads to, as line n, counted from 1
+    abbrev outcome : ℕ → Lines
+    outcome n =
+        cond (invertsZero op before) (stopped (Divisor n))
+        (cond (within new) (runOps (drop (k + 1 - c .factors) (operations c)) (before ++ (new ∷ []))) (stopped (Overflow n)))
+
+    step : linesOf c rs ≡ outcome (k + 1)
+    unfolding runOps
+    step =
+        sym (p .ran .todo)
+        ∙ ap (λ (os : List Entry). runOps os before) next
+        ∙ ap outcome (ap suc (up-to-long t s k) ∙ sym (add-one k))
+
+    module _ (b : Bool) (zero : (r : List ℕ) → b ≡ invertsZero op (linesUpTo t r k)) where
+      -- 11
+      pub ran-divisor : b ≡ true → refused (Divisor (k + 1)) ≡ finished (c .factors) (linesOf c rs)
+      ran-divisor f =
+          let e : linesOf c rs ≡ stopped (Divisor (k + 1)) = step ∙ rw (sym (zero s) ∙ f) in
+          ap (finished (c .factors)) (sym e)
+
+      module _ (apart : b ≡ false) (r : Slopes) (u : List ℤ) (v : List ℕ) (w : Worked (rowOf op before) t s k r u v) where
+        -- 12
+        pub ran-overflow : r .valid ≡ false → refused (Overflow (k + 1)) ≡ finished (c .factors) (linesOf c rs)
+        ran-overflow f =
+            let e : linesOf c rs ≡ stopped (Overflow (k + 1)) = step ∙ rw (sym (zero s) ∙ apart, sym (w .tells) ∙ f) in
+            ap (finished (c .factors)) (sym e)
+
+        pub ran-more : (a : Bool) → a ≡ wellFormedOp k op → a ≡ true → r .valid ≡ true → Ran c rs u v (r .gradient) (k + 1)
+        ran-more a e y f =
+            let placed : Placed new t s k u v = record { line = w .line f; others = w .others } in
+            let here : k + 1 - 1 ≡ k = omega arith in
+            record {
+              from = omega (arith, p .ran .from);
+              upto = omega (arith, p .more);
+              ready = ready-more k new (p .ran .ready) placed (w .fine f);
+              slopes = λ h. w .slopes f ∙ sym (ap (λ (l : Line). l .gradient) (w .line f)) ∙ ap (gradientAt u) (sym here);
+              todo = ap (runOps (drop (k + 1 - c .factors) (operations c))) (lines-more k new (p .ran .ready) placed)
+                  ∙ sym (step ∙ rw (sym (zero s) ∙ apart, sym (w .tells) ∙ f));
+              untested = passed a e y;
+            }

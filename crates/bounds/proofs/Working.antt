@@ -1,6 +1,6 @@
--- A line that is worked out by a row: its head is written, and then its slopes. Assumes nothing.
+-- A line that is worked out by a row: its slopes are written, and then its head. Assumes nothing.
 use mathlib.Core.Path.{_≡_, refl, sym, ap, _∙_}
-use mathlib.Core.Bool.{Bool, true, false, false≢true}
+use mathlib.Core.Bool.{true, false, false≢true}
 use mathlib.Core.List.{List}
 use mathlib.Core.Logic.{_⊎_, inl, inr}
 use Prim.Native.Nat.{ℕ, _+_, _*_, _≤_, _<_}
@@ -17,7 +17,7 @@ use Rattle.rules.specs.Table.{Row, lineOf}
 use Rattle.rules.specs.Run.{eachValid, within}
 use Rattle.bounds.specs.declared.slopes.Slopes.{Slopes}
 use Rattle.bounds.specs.declared.table.Head.{Head}
-use Rattle.bounds.specs.Terms.{overMembers, slopesOf, Flat, Fine}
+use Rattle.bounds.specs.Terms.{Told, overMembers, slopesOf, Flat, Fine}
 use Rattle.bounds.specs.Table.{gradientAt, lineAt, putPair, Refers, Stored, lineWith, Placed, Settled, Worked}
 use Rattle.bounds.proofs.Members.{below-or, eight-same, eight-at, members-all, members-flat}
 use Rattle.bounds.proofs.Pairs.{put-long, put-read, put-other, same-pair, same-ranges}
@@ -86,6 +86,8 @@ module _ (t : List ℤ) (k : ℕ) (value spectrum : Range) (u : List ℤ) (w : u
       first (inr l) = inr (omega arith)
 
   -- no slope has changed
+  head-slopes : gradientAt u k ≡ gradientAt t k
+  head-slopes = same-ranges u t (20 * k + 4) (λ n l m. number-other n (inr l))
 
   module _ (long : length t ≡ 1280) (inside : k < 64) where
     head-value : pairAt u (20 * k) ≡ value
@@ -130,34 +132,38 @@ module _ (s : List ℕ) (k support nonlinear : ℕ) (v : List ℕ) (w : v ≡ se
         ap (λ (l : List ℕ). getD l (2 * k + 1) 0) w
         ∙ getD-set-same (set s (2 * k) support) (2 * k + 1) nonlinear 0 (omega (arith, length-set s (2 * k) support))
 
--- ---- and its slopes: what `settle` leaves
-module _ (t : List ℤ) (s : List ℕ) (k : ℕ) (h : Head) (g : Slopes) (u : List ℤ) (v : List ℕ) (x : List ℤ)
+-- ---- beside its slopes, which the table holds
+module _ (t : List ℤ) (s : List ℕ) (k : ℕ) (h : Head) (g : Slopes) (u : List ℤ) (v : List ℕ)
     (w : (u ≡ putPair (putPair t (20 * k) (h .value)) (20 * k + 2) (h .spectrum))
     × (v ≡ set (set s (2 * k) (h .support)) (2 * k + 1) (h .nonlinear)))
-    (z : Stored (g .gradient) u k x)
+    (slopes : gradientAt t k ≡ g .gradient)
     (long : length t ≡ 1280) (sets : length s ≡ 128) (inside : k < 64)
   where
-    pub placed : Placed (lineWith h g) t s k x v
-    placed =
-        let o = z .others in
-        record {
-          line = λ i. record {
-            value = (same-pair x u (20 * k) (o _ (inl (omega arith))) (o _ (inl (omega arith))) ∙ head-value t k _ _ u (w .0) long inside) i;
-            gradient = z .slopes i;
-            support = head-support s k _ _ v (w .1) sets inside i;
-            nonlinear = head-nonlinear s k _ _ v (w .1) sets inside i;
-            spectrum = (same-pair x u (20 * k + 2) (o _ (inl (omega arith))) (o _ (inl (omega arith))) ∙ head-spectrum t k _ _ u (w .0) long inside) i;
-          };
-          others = other-lines t x s v k (λ n p. o n (slope p) ∙ number-other t k _ _ u (w .0) n (head p)) (set-other s k _ _ v (w .1));
-        }
+    pub placed : Placed (lineWith h g) t s k u v
+    placed = record {
+      line = λ i. record {
+        value = head-value t k _ _ u (w .0) long inside i;
+        gradient = (head-slopes t k _ _ u (w .0) ∙ slopes) i;
+        support = head-support s k _ _ v (w .1) sets inside i;
+        nonlinear = head-nonlinear s k _ _ v (w .1) sets inside i;
+        spectrum = head-spectrum t k _ _ u (w .0) long inside i;
+      };
+      others = other-lines t u s v k (λ n p. number-other t k _ _ u (w .0) n (head p)) (set-other s k _ _ v (w .1));
+    }
       where
-        slope : {n : ℕ} → (n < 20 * k) ⊎ (20 * k + 20 ≤ n) → (n < 20 * k + 4) ⊎ (20 * k + 20 ≤ n)
-        slope (inl l) = inl (omega arith)
-        slope (inr l) = inr l
-
         head : {n : ℕ} → (n < 20 * k) ⊎ (20 * k + 20 ≤ n) → (n < 20 * k) ⊎ (20 * k + 4 ≤ n)
         head (inl l) = inl l
         head (inr l) = inr (omega arith)
+
+-- ---- the slopes were written before: from the table t to the table u
+module _ {g : List Range} {t : List ℤ} {k : ℕ} {u : List ℤ} (z : Stored g t k u) where
+  pub stored-others : (s : List ℕ) (x : List ℤ) (v : List ℕ) → ((q : ℕ) → ¬ (q ≡ k) → lineAt x v q ≡ lineAt u s q)
+      → (q : ℕ) → ¬ (q ≡ k) → lineAt x v q ≡ lineAt t s q
+  stored-others s x v o q n = o q n ∙ other-lines t u s s k (λ n p. z .others n (slope p)) (λ n p. refl) q n
+    where
+      slope : {n : ℕ} → (n < 20 * k) ⊎ (20 * k + 20 ≤ n) → (n < 20 * k + 4) ⊎ (20 * k + 20 ≤ n)
+      slope (inl l) = inl (omega arith)
+      slope (inr l) = inr l
 
 -- ---- the line of a row
 -- The head is a row's.
@@ -167,9 +173,13 @@ pub record HeadOf (row : Row) (h : Head) : Type 0 where
   pub support : h .support ≡ row .support
   pub nonlinear : h .nonlinear ≡ row .nonlinear
 
--- the slopes tell of themselves whether they are valid
-pub slopes-tell : (g : Slopes) (l : List Range) → g ≡ record { gradient = l; valid = eachValid l } → g .valid ≡ eachValid (g .gradient)
-slopes-tell g l e = ap (λ (y : Slopes). y .valid) e ∙ sym (ap (λ (y : Slopes). eachValid (y .gradient)) e)
+-- What `settle` asks: g is what the function of the row's slopes gave, and wrote from the table t to the table x, and an operation gave the
+-- value and the spectrum.
+pub settle-asks : (k : ℕ) (g : Slopes) (l : List Range) (t x : List ℤ) (value spectrum : Range) → k < 64
+    → (g ≡ record { gradient = l; valid = eachValid l }) × Stored (g .gradient) t k x → Told value → Told spectrum
+    → (k < 64) × ((g .valid ≡ eachValid (g .gradient)) × (Told value × (Told spectrum × (gradientAt x k ≡ g .gradient))))
+settle-asks k g l t x value spectrum h (e, w) v s =
+    (h, (ap (λ (y : Slopes). y .valid) e ∙ sym (ap (λ (y : Slopes). eachValid (y .gradient)) e), (v, (s, w .slopes))))
 
 module _ (row : Row) (h : Head) (m : HeadOf row h) (f : ℕ → Range)
     (same : (a : ℕ) → f a ≡ sticky (row .slope a))
@@ -190,24 +200,30 @@ module _ (row : Row) (h : Head) (m : HeadOf row h) (f : ℕ → Range)
         let slopes = ap (λ (y : Slopes). y .gradient) e ∙ ap (λ (p : ℕ). overMembers p f) (m .support) ∙ all-slopes in
         λ i. record { value = m .value i; gradient = slopes i; support = m .support i; nonlinear = m .nonlinear i; spectrum = m .spectrum i }
 
-    pub worked : (g : Slopes) (t : List ℤ) (s : List ℕ) (k : ℕ) (ok : Bool) (u : List ℤ) (v : List ℕ) → g ≡ slopesOf (h .support) f
-        → Settled (lineWith h g) t s k ok u v → Worked row t s k ok u v
-    worked g t s k ok u v e z =
+    -- from the table t to the table x its slopes are written, and from there to the table u its head
+    pub worked : (g : Slopes) (t : List ℤ) (s : List ℕ) (k : ℕ) (x : List ℤ) (r : Slopes) (u : List ℤ) (v : List ℕ)
+        → (g ≡ slopesOf (h .support) f) × Stored (g .gradient) t k x → Settled (lineWith h g) x s k r u v → Worked row t s k r u v
+    worked g t s k x r u v (e, w) z =
         let is = line-is g e in
-        let tells : ok ≡ within (lineOf row) = z .tells ∙ ap within is in
+        let tells : r .valid ≡ within (lineOf row) = z .tells ∙ ap within is in
         record {
           tells = tells;
+          slopes = λ y. z .slopes y ∙ ap (λ (l : Line). l .gradient) is;
           line = λ y. z .line y ∙ is;
           fine = λ y. record { valid = sym tells ∙ y; flat = flat };
-          others = z .others;
+          others = stored-others w s u v (z .others);
         }
 
 -- a row whose slopes are `over` needs no line
-pub worked-over : (row : Row) (t : List ℤ) (s : List ℕ) (k : ℕ) → isValid (sticky (row .slope 0)) ≡ false → Worked row t s k false t s
+pub worked-over : (row : Row) (t : List ℤ) (s : List ℕ) (k : ℕ) (r : Slopes) → r .valid ≡ false → isValid (sticky (row .slope 0)) ≡ false
+    → Worked row t s k r t s
 unfolding lineOf
-worked-over row t s k e = record {
-  tells = sym (slope-over (lineOf row) (sticky (row .slope 0)) _ refl e);
-  line = λ z. absurd (false≢true z);
-  fine = λ z. absurd (false≢true z);
-  others = λ q n. refl;
-}
+worked-over row t s k r none e =
+    let never : r .valid ≡ true → ⊥ = λ z. false≢true (sym none ∙ z) in
+    record {
+      tells = none ∙ sym (slope-over (lineOf row) (sticky (row .slope 0)) _ refl e);
+      slopes = λ z. absurd (never z);
+      line = λ z. absurd (never z);
+      fine = λ z. absurd (never z);
+      others = λ q n. refl;
+    }

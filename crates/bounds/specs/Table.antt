@@ -1,13 +1,14 @@
 -- The run's table of lines: twenty numbers a line, the ends of its value, of its spectrum and of its eight slopes; and two sets a line, its
 -- support and what it is nonlinear in. Lines are counted from 0.
 use mathlib.Core.Path.{_≡_}
-use mathlib.Core.Bool.{Bool, true}
+use mathlib.Core.Bool.{true}
 use mathlib.Core.List.{List, [], _∷_, _++_}
 use mathlib.Core.Logic.{_⊎_}
 use Prim.Native.Nat.{ℕ, zero, suc, _+_, _*_, _≤_, _<_}
 use lib.IntN.{ℤ, pos}
 use lib.ListN.{getD, set}
 use Rattle.range.specs.declared.Range.{Range}
+use Rattle.range.specs.Limit.{zeroRange}
 use Rattle.range.specs.Sums.{pairAt, rangesFrom}
 use Rattle.rules.specs.declared.Line.{Line}
 use Rattle.rules.specs.Table.{Row, eight, lineOf}
@@ -60,9 +61,14 @@ unfoldable pub linesUpTo : List ℤ → List ℕ → ℕ → List Line
 linesUpTo t s zero = []
 linesUpTo t s (suc k) = linesUpTo t s k ++ (lineAt t s k ∷ [])
 
--- The lines before the line k may be referred to.
+-- No slope of the line k is written: they are zero.
+abbrev pub Blank : List ℤ → ℕ → Type 0
+Blank t k = gradientAt t k ≡ eight (λ a. zeroRange)
+
+-- The lines before the line k may be referred to, and none from there on has a slope that is written.
 pub record Ready (t : List ℤ) (s : List ℕ) (k : ℕ) : Type 0 where
   pub fine : (j : ℕ) → j < k → Fine (lineAt t s j)
+  pub blank : (j : ℕ) → k ≤ j → Blank t j
 
 -- The first n lines are these, and may be referred to.
 pub record Started (ls : List Line) (n : ℕ) (t : List ℤ) (s : List ℕ) : Type 0 where
@@ -84,16 +90,19 @@ lineWith h g = record {
   spectrum = h .spectrum;
 }
 
--- From the table t, s to the table u, v the line k becomes l, if all its ranges are valid, which ok tells. No other line has changed.
-pub record Settled (l : Line) (t : List ℤ) (s : List ℕ) (k : ℕ) (ok : Bool) (u : List ℤ) (v : List ℕ) : Type 0 where
-  pub tells : ok ≡ within l
-  pub line : ok ≡ true → lineAt u v k ≡ l
+-- From the table t, s to the table u, v the line k becomes l, if all its ranges are valid, which r tells beside its slopes. No other line has
+-- changed.
+pub record Settled (l : Line) (t : List ℤ) (s : List ℕ) (k : ℕ) (r : Slopes) (u : List ℤ) (v : List ℕ) : Type 0 where
+  pub tells : r .valid ≡ within l
+  pub slopes : r .valid ≡ true → r .gradient ≡ l .gradient
+  pub line : r .valid ≡ true → lineAt u v k ≡ l
   pub others : (q : ℕ) → ¬ (q ≡ k) → lineAt u v q ≡ lineAt t s q
 
--- From the table t, s to the table u, v the line k is worked out by a row. The answer ok is whether all its ranges are valid, and where they
--- are the table holds the line. No other line has changed.
-pub record Worked (row : Row) (t : List ℤ) (s : List ℕ) (k : ℕ) (ok : Bool) (u : List ℤ) (v : List ℕ) : Type 0 where
-  pub tells : ok ≡ within (lineOf row)
-  pub line : ok ≡ true → lineAt u v k ≡ lineOf row
-  pub fine : ok ≡ true → Fine (lineOf row)
+-- From the table t, s to the table u, v the line k is worked out by a row. The answer r tells whether all its ranges are valid, and where they
+-- are it has the line's slopes, and the table holds the line. No other line has changed.
+pub record Worked (row : Row) (t : List ℤ) (s : List ℕ) (k : ℕ) (r : Slopes) (u : List ℤ) (v : List ℕ) : Type 0 where
+  pub tells : r .valid ≡ within (lineOf row)
+  pub slopes : r .valid ≡ true → r .gradient ≡ lineOf row .gradient
+  pub line : r .valid ≡ true → lineAt u v k ≡ lineOf row
+  pub fine : r .valid ≡ true → Fine (lineOf row)
   pub others : (q : ℕ) → ¬ (q ≡ k) → lineAt u v q ≡ lineAt t s q

@@ -1,5 +1,5 @@
-// The rows of 01's table, a function each: the line k of the table, of the lines that an operation refers to. The answer is whether all its
-// ranges are valid.
+// The rows of 01's table, a function each: the line k of the table, of the lines that an operation refers to. The answer is its slopes, and
+// whether all its ranges are valid.
 ghost use mathlib.Core.Path.{_≡_};
 ghost use mathlib.Core.Bool.{true};
 ghost use Prim.Native.Nat.{_≤_, _<_};
@@ -9,8 +9,8 @@ ghost use Rattle.range.specs.Arithmetic.{inverseOf};
 ghost use Rattle.rules.specs.Formula.{sticky};
 ghost use Rattle.rules.specs.Run.{eachValid};
 ghost use Rattle.rules.specs.Table.{factorRow, addRow, addcRow, mulcRow, mulRow, powRow, invRow, lineOf};
-ghost use Rattle.bounds.specs.Terms.{Fine};
-ghost use Rattle.bounds.specs.Table.{valueAt, lineAt, Refers, lineWith, Placed, Settled, Worked};
+ghost use Rattle.bounds.specs.Terms.{Told, Fine};
+ghost use Rattle.bounds.specs.Table.{valueAt, gradientAt, lineAt, Blank, Refers, lineWith, Placed, Settled, Worked};
 use super::slopes;
 use super::slopes::Slopes;
 use super::spectrum;
@@ -19,35 +19,40 @@ use super::table::Head;
 use super::valid;
 use range::Range;
 
-// Writes the line k, if all its ranges are valid, and tells whether they are.
-fn settle(t: &mut [i32; 1280], s: &mut [u8; 128], k: usize, h: Head, g: Slopes) -> bool
+// Writes what the line k has beside its slopes, which the table holds, if all its ranges are valid. What is given back is its slopes, and
+// whether they are.
+fn settle(t: &mut [i32; 1280], s: &mut [u8; 128], k: usize, h: Head, g: Slopes) -> Slopes
     requires { ⌜ k < 64 ⌝ }
     requires { ⌜ g .valid ≡ eachValid (g .gradient) ⌝ }
+    requires { ⌜ Told (h .value) ⌝ }
+    requires { ⌜ Told (h .spectrum) ⌝ }
+    requires { ⌜ gradientAt (now t) k ≡ g .gradient ⌝ }
     ensures { λ r. ⌜ Settled (lineWith h g) (now (t .entry)) (now (s .entry)) k r (now (t .exit)) (now (s .exit)) ⌝ }
 {
     let v = h.value;
     let e = h.spectrum;
-    if !(v.valid() & (g.valid & e.valid())) {
-        return false;
+    if !(valid::is_range(v) & (g.valid & valid::is_range(e))) {
+        return slopes::none();
     }
     table::sized(t);
     table::sized_sets(s);
     table::put_head(t, s, k, h);
-    let slopes = g.gradient;
-    slopes::put(t, k, slopes);
-    true
+    g
 }
 
 // 01's row `factor a`; a is counted from 0, and its line is the line a.
 pub(crate) fn factor(t: &mut [i32; 1280], s: &mut [u8; 128], a: usize, r: Range)
     requires { ⌜ a < 8 ⌝ }
+    requires { ⌜ Blank (now t) a ⌝ }
     requires { ⌜ isValid r ≡ true ⌝ }
     ensures { λ _. ⌜ Placed (lineOf (factorRow a r)) (now (t .entry)) (now (s .entry)) a (now (t .exit)) (now (s .exit)) ⌝ }
 {
     let zero = Range::ZERO;
-    let mut g = [Range::ZERO; 8];
-    g[a] = Range::ONE;
-    settle(
+    let one = Range::ONE;
+    table::sized(t);
+    table::sized_sets(s);
+    table::put_slope(t, a, a, one);
+    table::put_head(
         t,
         s,
         a,
@@ -57,16 +62,13 @@ pub(crate) fn factor(t: &mut [i32; 1280], s: &mut [u8; 128], a: usize, r: Range)
             support: 1u8 << a,
             nonlinear: 0,
         },
-        Slopes {
-            gradient: g,
-            valid: true,
-        },
     );
 }
 
 // 01's row `add`.
-pub(crate) fn add(t: &mut [i32; 1280], s: &mut [u8; 128], i: usize, j: usize, k: usize) -> bool
+pub(crate) fn add(t: &mut [i32; 1280], s: &mut [u8; 128], i: usize, j: usize, k: usize) -> Slopes
     requires { ⌜ k < 64 ⌝ }
+    requires { ⌜ Blank (now t) k ⌝ }
     requires { ⌜ Refers (now t) (now s) i k ⌝ }
     requires { ⌜ Refers (now t) (now s) j k ⌝ }
     ensures { λ r. ⌜ Worked
@@ -78,7 +80,7 @@ pub(crate) fn add(t: &mut [i32; 1280], s: &mut [u8; 128], i: usize, j: usize, k:
     let c = table::nonlinear(s, j);
     let v = valid::sum(table::value(t, i), table::value(t, j));
     let e = spectrum::of_sum(table::spectrum(t, i), b, table::spectrum(t, j), c);
-    let g = slopes::of_sum(t, p, i, j);
+    let g = slopes::of_sum(t, k, p, i, j);
     settle(
         t,
         s,
@@ -94,7 +96,7 @@ pub(crate) fn add(t: &mut [i32; 1280], s: &mut [u8; 128], i: usize, j: usize, k:
 }
 
 // 01's row `addc`.
-pub(crate) fn addc(t: &mut [i32; 1280], s: &mut [u8; 128], i: usize, c: i64, k: usize) -> bool
+pub(crate) fn addc(t: &mut [i32; 1280], s: &mut [u8; 128], i: usize, c: i64, k: usize) -> Slopes
     requires { ⌜ k < 64 ⌝ }
     requires { ⌜ Refers (now t) (now s) i k ⌝ }
     requires { ⌜ natAbs c ≤ 2000000000 ⌝ }
@@ -107,6 +109,7 @@ pub(crate) fn addc(t: &mut [i32; 1280], s: &mut [u8; 128], i: usize, c: i64, k: 
     let v = valid::sum(table::value(t, i), Range::new(c, c));
     let e = table::spectrum(t, i);
     let g = table::gradient(t, i);
+    slopes::put(t, k, g);
     settle(
         t,
         s,
@@ -125,8 +128,9 @@ pub(crate) fn addc(t: &mut [i32; 1280], s: &mut [u8; 128], i: usize, c: i64, k: 
 }
 
 // 01's row `mulc`.
-pub(crate) fn mulc(t: &mut [i32; 1280], s: &mut [u8; 128], i: usize, c: i64, k: usize) -> bool
+pub(crate) fn mulc(t: &mut [i32; 1280], s: &mut [u8; 128], i: usize, c: i64, k: usize) -> Slopes
     requires { ⌜ k < 64 ⌝ }
+    requires { ⌜ Blank (now t) k ⌝ }
     requires { ⌜ Refers (now t) (now s) i k ⌝ }
     requires { ⌜ natAbs c ≤ 2000000000 ⌝ }
     ensures { λ r. ⌜ Worked
@@ -138,7 +142,7 @@ pub(crate) fn mulc(t: &mut [i32; 1280], s: &mut [u8; 128], i: usize, c: i64, k: 
     let q = Range::new(c, c);
     let v = valid::product(q, table::value(t, i));
     let e = valid::product(q, table::spectrum(t, i));
-    let g = slopes::scaled(t, p, i, q);
+    let g = slopes::scaled(t, k, p, i, q);
     settle(
         t,
         s,
@@ -168,12 +172,16 @@ fn product_spectrum(t: &[i32; 1280], s: &[u8; 128], i: usize, j: usize) -> Range
     let e = valid::product(table::value(t, j), table::spectrum(t, i));
     let f = valid::product(table::value(t, i), table::spectrum(t, j));
     let own = spectrum::of_sum(e, b, f, c);
-    spectrum::of_cross(t, p, i, j).sum(spectrum::extended(own, b | c, p))
+    valid::told_sum(
+        spectrum::of_cross(t, p, i, j),
+        spectrum::extended(own, b | c, p),
+    )
 }
 
 // 01's row `mul`.
-pub(crate) fn mul(t: &mut [i32; 1280], s: &mut [u8; 128], i: usize, j: usize, k: usize) -> bool
+pub(crate) fn mul(t: &mut [i32; 1280], s: &mut [u8; 128], i: usize, j: usize, k: usize) -> Slopes
     requires { ⌜ k < 64 ⌝ }
+    requires { ⌜ Blank (now t) k ⌝ }
     requires { ⌜ Refers (now t) (now s) i k ⌝ }
     requires { ⌜ Refers (now t) (now s) j k ⌝ }
     ensures { λ r. ⌜ Worked
@@ -185,7 +193,7 @@ pub(crate) fn mul(t: &mut [i32; 1280], s: &mut [u8; 128], i: usize, j: usize, k:
     let w = table::value(t, j);
     let u = valid::product(v, w);
     let e = product_spectrum(t, s, i, j);
-    let g = slopes::of_product(t, p, i, j, v, w);
+    let g = slopes::of_product(t, k, p, i, j, v, w);
     settle(
         t,
         s,
@@ -203,6 +211,7 @@ pub(crate) fn mul(t: &mut [i32; 1280], s: &mut [u8; 128], i: usize, j: usize, k:
 // The E of 01's row `pow`.
 fn power_spectrum(t: &[i32; 1280], s: &[u8; 128], i: usize, m: u8) -> Range
     requires { ⌜ i < 64 ⌝ }
+    requires { ⌜ Fine (lineAt (now t) (now s) i) ⌝ }
     requires { ⌜ 2 ≤ m ⌝ }
     ensures { λ r. ⌜ r ≡ sticky (powRow (lineAt (now (t .entry)) (now (s .entry)) i) m .spectrum) ⌝ }
 {
@@ -214,8 +223,9 @@ fn power_spectrum(t: &[i32; 1280], s: &[u8; 128], i: usize, m: u8) -> Range
 }
 
 // 01's row `pow`. Every slope is a multiple of V^(m−1), so that an `OVER` there is one in the line, whatever the support.
-pub(crate) fn pow(t: &mut [i32; 1280], s: &mut [u8; 128], i: usize, m: u8, k: usize) -> bool
+pub(crate) fn pow(t: &mut [i32; 1280], s: &mut [u8; 128], i: usize, m: u8, k: usize) -> Slopes
     requires { ⌜ k < 64 ⌝ }
+    requires { ⌜ Blank (now t) k ⌝ }
     requires { ⌜ Refers (now t) (now s) i k ⌝ }
     requires { ⌜ 2 ≤ m ⌝ }
     ensures { λ r. ⌜ Worked
@@ -226,11 +236,11 @@ pub(crate) fn pow(t: &mut [i32; 1280], s: &mut [u8; 128], i: usize, m: u8, k: us
     let x = table::value(t, i);
     let q = x.power(m - 1);
     if !q.valid() {
-        return false;
+        return slopes::none();
     }
     let v = x.power(m);
     let e = power_spectrum(t, s, i, m);
-    let g = slopes::raised(t, p, i, q, m);
+    let g = slopes::raised(t, k, p, i, q, m);
     settle(
         t,
         s,
@@ -248,6 +258,7 @@ pub(crate) fn pow(t: &mut [i32; 1280], s: &mut [u8; 128], i: usize, m: u8, k: us
 // The E of 01's row `inv`; v is the line's own value.
 fn inverse_spectrum(t: &[i32; 1280], s: &[u8; 128], i: usize, v: Range) -> Range
     requires { ⌜ i < 64 ⌝ }
+    requires { ⌜ Fine (lineAt (now t) (now s) i) ⌝ }
     requires { ⌜ v ≡ inverseOf (valueAt (now t) i) ⌝ }
     ensures { λ r. ⌜ r ≡ sticky (invRow (lineAt (now (t .entry)) (now (s .entry)) i) .spectrum) ⌝ }
 {
@@ -258,8 +269,9 @@ fn inverse_spectrum(t: &[i32; 1280], s: &[u8; 128], i: usize, v: Range) -> Range
 }
 
 // 01's row `inv`. Every slope is a multiple of V_k², as in `pow`.
-pub(crate) fn inv(t: &mut [i32; 1280], s: &mut [u8; 128], i: usize, k: usize) -> bool
+pub(crate) fn inv(t: &mut [i32; 1280], s: &mut [u8; 128], i: usize, k: usize) -> Slopes
     requires { ⌜ k < 64 ⌝ }
+    requires { ⌜ Blank (now t) k ⌝ }
     requires { ⌜ Refers (now t) (now s) i k ⌝ }
     ensures { λ r. ⌜ Worked
         (invRow (lineAt (now (t .entry)) (now (s .entry)) i))
@@ -269,10 +281,10 @@ pub(crate) fn inv(t: &mut [i32; 1280], s: &mut [u8; 128], i: usize, k: usize) ->
     let v = table::value(t, i).inverse();
     let q = v.power(2);
     if !q.valid() {
-        return false;
+        return slopes::none();
     }
     let e = inverse_spectrum(t, s, i, v);
-    let g = slopes::scaled(t, p, i, q.negated());
+    let g = slopes::scaled(t, k, p, i, q.negated());
     settle(
         t,
         s,

@@ -1,16 +1,19 @@
 // The run over the lines of a codelist, and the refusals of rating.
 ghost use mathlib.Core.Path.{_≡_};
-ghost use mathlib.Core.Bool.{true};
+ghost use mathlib.Core.Bool.{true, cond};
 ghost use mathlib.Core.List.{List};
 ghost use Prim.Native.Nat.{ℕ, _-_, _≤_, _<_};
 ghost use lib.ListN.{length, getD};
 ghost use Rattle.range.specs.Limit.{zeroRange};
 ghost use Rattle.range.specs.Arithmetic.{holdsZero};
-ghost use Rattle.codelist.specs.Codelist.{WellFormedOp, Ratable};
-ghost use Rattle.rules.specs.Run.{eachValid, rowOf, invertsZero, factorLines, linesOf};
-ghost use Rattle.rules.specs.Rate.{limitsOf, rated, refused, pairs, firstBad, finished, rateOf};
-ghost use Rattle.bounds.specs.Table.{lineAt, linesUpTo, Ready, Worked, Started};
+ghost use Rattle.codelist.specs.Codelist.{WellFormedOp, ratable};
+ghost use Rattle.rules.specs.declared.Refusal.the-variants.{NoCodelist};
+ghost use Rattle.rules.specs.Run.{eachValid, rowOf, invertsZero, factorLines};
+ghost use Rattle.rules.specs.Rate.{limitsOf, rated, refused, pairs, firstBad, rateOf};
+ghost use Rattle.bounds.specs.Terms.{Fine};
+ghost use Rattle.bounds.specs.Table.{gradientAt, lineAt, linesUpTo, Ready, Worked, Started};
 use super::rows;
+use super::slopes::Slopes;
 use super::spectrum;
 use super::table;
 use codelist::Codelist;
@@ -41,14 +44,15 @@ fn refuse(r: Refusal) -> Rating
     }
 }
 
-// The result is that of the line k, with its spectrum extended to all n factors besides.
-fn result(t: &[i32; 1280], s: &[u8; 128], n: u8, k: usize) -> Rating
+// The result is that of the line k, whose slopes are given, with its spectrum extended to all n factors besides.
+fn result(t: &[i32; 1280], s: &[u8; 128], n: u8, k: usize, gradient: [Range; 8]) -> Rating
     requires { ⌜ n ≤ 8 ⌝ }
     requires { ⌜ k < 64 ⌝ }
+    requires { ⌜ Fine (lineAt (now t) (now s) k) ⌝ }
+    requires { ⌜ gradient ≡ gradientAt (now t) k ⌝ }
     ensures { λ a. ⌜ a ≡ rated (limitsOf n (lineAt (now (t .entry)) (now (s .entry)) k)) ⌝ }
 {
     let value = table::value(t, k);
-    let gradient = table::gradient(t, k);
     let spectrum = table::spectrum(t, k);
     let nonlinear = table::nonlinear(s, k);
     let all = ((1u16 << n) - 1) as u8;
@@ -136,8 +140,8 @@ fn inverts_zero(t: &[i32; 1280], op: Op, k: usize) -> bool
     }
 }
 
-// The line k, counted from 0, of its operation. The answer is whether all its ranges are valid.
-fn work(t: &mut [i32; 1280], s: &mut [u8; 128], op: Op, k: usize) -> bool
+// The line k, counted from 0, of its operation. The answer is its slopes, and whether all its ranges are valid.
+fn work(t: &mut [i32; 1280], s: &mut [u8; 128], op: Op, k: usize) -> Slopes
     requires { ⌜ WellFormedOp k op ⌝ }
     requires { ⌜ Ready (now t) (now s) k ⌝ }
     requires { ⌜ k < 64 ⌝ }
@@ -155,47 +159,55 @@ fn work(t: &mut [i32; 1280], s: &mut [u8; 128], op: Op, k: usize) -> bool
     }
 }
 
-// The lines of the factors, then of the operations, in order; 11 before 12.
-fn run(c: Codelist, xs: &[i64]) -> Rating
-    requires { ⌜ Ratable c ⌝ }
-    requires { ⌜ length (pairs (now xs)) ≡ c .factors ⌝ }
-    requires { ⌜ eachValid (pairs (now xs)) ≡ true ⌝ }
-    ensures { λ r. ⌜ r ≡ finished (c .factors) (linesOf c (pairs (now (xs .entry)))) ⌝ }
+// The refusal r. A codelist that can't be rated is refused before all else.
+fn refuse_ratable(c: Codelist, r: Refusal) -> Rating
+    ensures { λ a. ⌜ a ≡ cond (ratable c) (refused r) (refused NoCodelist) ⌝ }
 {
-    let n = c.factors as usize;
-    let end = n + c.count as usize;
-    let mut t = [0i32; 1280];
-    let mut s = [0u8; 128];
-    start(&mut t, &mut s, xs, n);
-    let mut k = n;
-    while k < end {
-        let entry = c.ops[k - n];
-        let op = entry.op;
-        if inverts_zero(&t, op, k) {
-            return refuse(Refusal::Divisor(k as u8 + 1));
-        }
-        if !work(&mut t, &mut s, op, k) {
-            return refuse(Refusal::Overflow(k as u8 + 1));
-        }
-        k += 1;
+    if codelist::is_ratable(c) {
+        refuse(r)
+    } else {
+        refuse(Refusal::NoCodelist)
     }
-    result(&t, &s, c.factors, end - 1)
 }
 
-// Rating: 10, 8, 9 (lowest factor), then the lines.
+// Rating: 10, 8, 9 (lowest factor), then the lines of the factors and of the operations, in order, 11 before 12. Whether the codelist can be
+// rated is found out on the way, which spares a pass over it: each operation is tested before its line is worked out, and where another refusal
+// comes up, all of them are before it is given.
 pub(crate) fn answer(c: Codelist, xs: &[i64]) -> Rating
     ensures { λ r. ⌜ r ≡ rateOf c (now (xs .entry)) ⌝ }
 {
-    if !codelist::is_ratable(c) {
+    let n = c.factors as usize;
+    let count = c.count as usize;
+    if !((1 <= n) & (n <= 8) & (1 <= count) & (n + count <= 64)) {
         return refuse(Refusal::NoCodelist);
     }
-    let n = c.factors;
-    if xs.len() != 2 * (n as usize) {
-        return refuse(Refusal::RangeCount);
+    if xs.len() != 2 * n {
+        return refuse_ratable(c, Refusal::RangeCount);
     }
-    let bad = first_bad(xs, n);
+    let bad = first_bad(xs, c.factors);
     if bad != 0 {
-        return refuse(Refusal::BadRange(bad));
+        return refuse_ratable(c, Refusal::BadRange(bad));
     }
-    run(c, xs)
+    let mut t = [0i32; 1280];
+    let mut s = [0u8; 128];
+    start(&mut t, &mut s, xs, n);
+    let mut last = [Range::ZERO; 8];
+    let mut k = n;
+    while k < n + count {
+        let entry = c.ops[k - n];
+        let op = entry.op;
+        if !codelist::is_op_well_formed(k as u64, op) {
+            return refuse(Refusal::NoCodelist);
+        }
+        if inverts_zero(&t, op, k) {
+            return refuse_ratable(c, Refusal::Divisor(k as u8 + 1));
+        }
+        let g = work(&mut t, &mut s, op, k);
+        if !g.valid {
+            return refuse_ratable(c, Refusal::Overflow(k as u8 + 1));
+        }
+        last = g.gradient;
+        k += 1;
+    }
+    result(&t, &s, c.factors, k - 1, last)
 }

@@ -3,9 +3,10 @@ ghost use mathlib.Core.Path.{_≡_};
 ghost use Prim.Native.Nat.{_+_, _*_, _<_};
 ghost use Rattle.range.specs.Sums.{at};
 ghost use Rattle.rules.specs.Sets.{apart, isSingle, only};
-ghost use Rattle.bounds.specs.Terms.{extendedOf, sumSpectrumOf, squareSpectrumOf, crossSpectrumOf};
+ghost use Rattle.bounds.specs.Terms.{Told, extendedOf, sumSpectrumOf, squareSpectrumOf, crossSpectrumOf};
 ghost use Rattle.bounds.specs.Table.{gradientAt};
 use super::table;
+use super::valid;
 use range::Range;
 
 // Both have members, and none in common.
@@ -44,19 +45,26 @@ fn slopes_of(i: usize) -> u16
 
 // The spectrum e over the set b, extended to the set c: 01's lift.
 pub(crate) fn extended(e: Range, b: u8, c: u8) -> Range
+    requires { ⌜ Told e ⌝ }
     ensures { λ r. ⌜ r ≡ extendedOf e b c ⌝ }
 {
-    if b == c { e } else { e.hull(Range::ZERO) }
+    if b == c {
+        e
+    } else {
+        valid::told_hull(e, Range::ZERO)
+    }
 }
 
 // The spectrum of a sum of e over b and f over c: 01's join.
 pub(crate) fn of_sum(e: Range, b: u8, f: Range, c: u8) -> Range
+    requires { ⌜ Told e ⌝ }
+    requires { ⌜ Told f ⌝ }
     ensures { λ r. ⌜ r ≡ sumSpectrumOf e b f c ⌝ }
 {
     if are_apart(b, c) {
-        e.hull(f)
+        valid::told_hull(e, f)
     } else {
-        extended(e, b, b | c).sum(extended(f, c, b | c))
+        valid::told_sum(extended(e, b, b | c), extended(f, c, b | c))
     }
 }
 

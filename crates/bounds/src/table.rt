@@ -6,6 +6,7 @@ ghost use Prim.Native.Nat.{_+_, _*_, _<_};
 ghost use lib.IntN.{pos};
 ghost use lib.ListN.{length, getD, set};
 ghost use Rattle.range.specs.Limit.{isValid};
+ghost use Rattle.range.specs.Laws.{Settled};
 ghost use Rattle.range.specs.Sums.{at, pairAt};
 ghost use Rattle.bounds.specs.Table.{valueAt, spectrumAt, gradientAt, supportAt, nonlinearAt, putPair};
 use range::Range;
@@ -91,10 +92,10 @@ pub(crate) fn nonlinear(s: &[u8; 128], k: usize) -> u8
     s[2 * k + 1]
 }
 
-// Writes a range from the number m on. The ends of a valid one fit 32 bits.
+// Writes what an operation gave, a valid range or `OVER`, from the number m on: its ends fit 32 bits.
 fn put(t: &mut [i32; 1280], m: usize, r: Range)
     requires { ⌜ m < 1279 ⌝ }
-    requires { ⌜ isValid r ≡ true ⌝ }
+    requires { ⌜ Settled r ⌝ }
     ensures { λ _. ⌜ now (t .exit) ≡ putPair (now (t .entry)) m r ⌝ }
 {
     let low = r.low as i32;
@@ -107,7 +108,7 @@ fn put(t: &mut [i32; 1280], m: usize, r: Range)
 pub(crate) fn put_slope(t: &mut [i32; 1280], k: usize, a: usize, r: Range)
     requires { ⌜ k < 64 ⌝ }
     requires { ⌜ a < 8 ⌝ }
-    requires { ⌜ isValid r ≡ true ⌝ }
+    requires { ⌜ Settled r ⌝ }
     ensures { λ _. ⌜ now (t .exit) ≡ putPair (now (t .entry)) (20 * k + 4 + 2 * a) r ⌝ }
 {
     put(t, 20 * k + 4 + 2 * a, r);

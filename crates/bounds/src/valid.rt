@@ -1,20 +1,34 @@
-// Sums and products of ranges that are known to be valid: the same as `Range::sum` and `Range::product`, without their tests of the operands.
+// Sums and products of ranges that are known to be valid, and sums and hulls of what an operation gave: the same as those of `Range`, with fewer
+// tests.
 ghost use mathlib.Core.Path.{_≡_};
 ghost use mathlib.Core.Bool.{true};
 ghost use Prim.Native.Nat.{_≤_};
 ghost use lib.IntN.{natAbs};
-ghost use Rattle.range.specs.Limit.{isValid};
-ghost use Rattle.range.specs.Arithmetic.{sumOf, spreadOf, productOf};
+ghost use lib.Signed.{leZ};
+ghost use Rattle.range.specs.Limit.{isValid, kept};
+ghost use Rattle.range.specs.Arithmetic.{sumOf, spreadOf, productOf, hullOf};
 ghost use Rattle.range.specs.Steps.{endsBy, sortedOf};
 ghost use Rattle.bounds.specs.Terms.{Told};
 use range::Range;
+
+// A range whose ends are in order, if they are within the limit.
+fn limited(r: Range) -> Range
+    requires { ⌜ leZ (r .low) (r .high) ≡ true ⌝ }
+    ensures { λ z. ⌜ z ≡ kept r ⌝ }
+{
+    if (-2_000_000_000 <= r.low) & (r.high <= 2_000_000_000) {
+        r
+    } else {
+        Range::OVER
+    }
+}
 
 pub(crate) fn sum(a: Range, b: Range) -> Range
     requires { ⌜ isValid a ≡ true ⌝ }
     requires { ⌜ isValid b ≡ true ⌝ }
     ensures { λ r. ⌜ r ≡ sumOf a b ⌝ }
 {
-    Range::new(a.low + b.low, a.high + b.high).kept()
+    limited(Range::new(a.low + b.low, a.high + b.high))
 }
 
 // k times each end, in order.
@@ -38,12 +52,16 @@ fn spread(a: Range, b: Range) -> Range
     by(a.low, b).ends_hull(by(a.high, b))
 }
 
+// Most slopes that are multiplied are zero: b is tested for it.
 pub(crate) fn product(a: Range, b: Range) -> Range
     requires { ⌜ isValid a ≡ true ⌝ }
     requires { ⌜ isValid b ≡ true ⌝ }
     ensures { λ r. ⌜ r ≡ productOf a b ⌝ }
 {
-    spread(a, b).scaled().kept()
+    if b.is_zero() {
+        return Range::ZERO;
+    }
+    limited(spread(a, b).scaled())
 }
 
 // Whether what an operation gave is a range. Where it is none its ends are out of order, so that one comparison tells.
@@ -52,4 +70,30 @@ pub(crate) fn is_range(r: Range) -> bool
     ensures { λ b. ⌜ b ≡ isValid r ⌝ }
 {
     r.low <= r.high
+}
+
+// The sum of what two operations gave.
+pub(crate) fn told_sum(x: Range, y: Range) -> Range
+    requires { ⌜ Told x ⌝ }
+    requires { ⌜ Told y ⌝ }
+    ensures { λ r. ⌜ r ≡ sumOf x y ⌝ }
+{
+    if is_range(x) & is_range(y) {
+        sum(x, y)
+    } else {
+        Range::OVER
+    }
+}
+
+// The hull of what two operations gave.
+pub(crate) fn told_hull(x: Range, y: Range) -> Range
+    requires { ⌜ Told x ⌝ }
+    requires { ⌜ Told y ⌝ }
+    ensures { λ r. ⌜ r ≡ hullOf x y ⌝ }
+{
+    if is_range(x) & is_range(y) {
+        x.ends_hull(y)
+    } else {
+        Range::OVER
+    }
 }

@@ -1,9 +1,9 @@
--- The Boolean `ratable` is true exactly where a codelist is ratable, and one step of it, as the loop of the code takes it; what a ratable codelist
--- has besides; and that every well formed one is ratable.
+-- The Boolean `ratable` is true exactly where a codelist is ratable, and one step of it, as the loop of the code takes it; what a codelist with
+-- fitting counts and a ratable one have besides; and that every well formed one is ratable.
 use Prim.Native.Nat.{ℕ, _+_, _-_, _≤_, _<_}
 use mathlib.Core.Bool.{true, false, _&&_}
 use mathlib.Core.List.{List}
-use mathlib.Core.Path.{_≡_, sym, ap, subst, _∙_}
+use mathlib.Core.Path.{_≡_, sym, ap, _∙_}
 use native.Mathlib.Numerals.{add-one}
 use native.Mathlib.Omega.{arith}
 use lib.Dec.{leb, eqb}
@@ -12,14 +12,39 @@ use lib.Seq.{drop-cons, getD-take, length-take-le}
 use borrow.Author.Tests.{le-leb, eq-eqb, leb-true, eqb-true}
 use Rattle.codelist.specs.declared.Codelist.{Codelist}
 use Rattle.codelist.specs.declared.Entry.{Entry}
-use Rattle.codelist.specs.Codelist.{blank, WellFormedOp, WellFormed, Ratable, wellFormedOp, wellFormedOps, inBounds, ratable}
+use Rattle.codelist.specs.Codelist.{blank, WellFormed, Ratable, wellFormedOp, wellFormedOps, inBounds, ratable}
 use Rattle.codelist.specs.Codelist.{DecidesRatable}
 use Rattle.codelist.proofs.Laws.{both-true, both-made}
-use Rattle.codelist.proofs.WellFormed.{ops-sound, ops-complete, each-of}
+use Rattle.codelist.proofs.WellFormed.{ops-sound, ops-complete}
+
+-- What the test of the counts says
+pub record Counts (c : Codelist) : Type 0 where
+  pub factors : (1 ≤ c .factors) × (c .factors ≤ 8)
+  pub some : 1 ≤ c .count
+  pub few : c .factors + c .count ≤ 64
+
+pub counts : (c : Codelist) → inBounds c ≡ true → Counts c
+counts c p =
+    let d = both-true (leb 1 (c .factors) && leb (c .factors) 8 && leb 1 (c .count)) (leb (c .factors + c .count) 64) p in
+    let f = both-true (leb 1 (c .factors) && leb (c .factors) 8) (leb 1 (c .count)) (d .0) in
+    let g = both-true (leb 1 (c .factors)) (leb (c .factors) 8) (f .0) in
+    record {
+      factors = (leb-true 1 (c .factors) (g .0), leb-true (c .factors) 8 (g .1));
+      some = leb-true 1 (c .count) (f .1);
+      few = leb-true (c .factors + c .count) 64 (d .1);
+    }
 
 pub bounded : (c : Codelist) → inBounds c ≡ true → c .factors + c .count ≤ 64
-bounded c p = leb-true (c .factors + c .count) 64
-    (both-true (leb 1 (c .factors) && leb (c .factors) 8 && leb 1 (c .count)) (leb (c .factors + c .count) 64) p .1)
+bounded c p = counts c p .few
+
+-- The test by its parts: where the counts fit it is that of the operations
+pub not-counted : (c : Codelist) → inBounds c ≡ false → ratable c ≡ false
+unfolding ratable
+not-counted c e = rw e
+
+pub by-operations : (c : Codelist) → inBounds c ≡ true → length (c .ops) ≡ 64 → wellFormedOps (c .factors) (take (c .count) (c .ops)) ≡ ratable c
+unfolding ratable
+by-operations c e l = rw (e, eq-eqb (length (c .ops)) 64 l)
 
 -- The operations from index k on, among the first `count` entries, as the loop tests them
 module _ (n count : ℕ) (xs : List Entry) (few : count ≤ length xs) (k : ℕ) where
@@ -47,18 +72,9 @@ module _ (n count : ℕ) (xs : List Entry) (few : count ≤ length xs) (k : ℕ)
       let past : length (take count xs) ≤ k = omega (arith, ops-long) in
       rw (drop-of-length-le (take count xs) past)
 
--- What a ratable codelist has besides: its operations by their index
-pub array : (c : Codelist) → Ratable c → length (c .ops) ≡ 64
-array c w = w .array
-
+-- What a ratable codelist has besides: as many operations as it counts
 pub taken : (c : Codelist) → Ratable c → length (take (c .count) (c .ops)) ≡ c .count
 taken c w = length-take-le (c .count) (c .ops) (omega (arith, w .few, w .array))
-
--- Operation k, from 0, is codelist line factors + k + 1
-pub operation : (c : Codelist) → Ratable c → (d : Entry) (k : ℕ) → k < c .count → WellFormedOp (c .factors + k) (getD (c .ops) k d .op)
-operation c w d k h =
-    subst (λ (x : Entry). WellFormedOp (c .factors + k) (x .op)) (getD-take (c .count) (c .ops) k d h)
-    (each-of (c .factors) (take (c .count) (c .ops)) (w .each) d k (omega (arith, taken c w)))
 
 -- EVERY WELL FORMED CODELIST IS RATABLE: its operations and the blanks behind them fill the array
 pub well-formed-ratable : {c : Codelist} → WellFormed c → Ratable c
@@ -72,13 +88,11 @@ unfolding ratable
 sound c p =
     let a = both-true (inBounds c && eqb (length (c .ops)) 64) (wellFormedOps (c .factors) (take (c .count) (c .ops))) p in
     let b = both-true (inBounds c) (eqb (length (c .ops)) 64) (a .0) in
-    let d = both-true (leb 1 (c .factors) && leb (c .factors) 8 && leb 1 (c .count)) (leb (c .factors + c .count) 64) (b .0) in
-    let f = both-true (leb 1 (c .factors) && leb (c .factors) 8) (leb 1 (c .count)) (d .0) in
-    let g = both-true (leb 1 (c .factors)) (leb (c .factors) 8) (f .0) in
+    let n = counts c (b .0) in
     record {
-      factors = (leb-true 1 (c .factors) (g .0), leb-true (c .factors) 8 (g .1));
-      some = leb-true 1 (c .count) (f .1);
-      few = leb-true (c .factors + c .count) 64 (d .1);
+      factors = n .factors;
+      some = n .some;
+      few = n .few;
       each = ops-sound (c .factors) (take (c .count) (c .ops)) (a .1);
       array = eqb-true (length (c .ops)) 64 (b .1);
     }

@@ -1,13 +1,12 @@
--- Well formed operations: the test of one, and of several in a row, is true exactly where they are well formed; and each by its index.
-use Prim.Native.Nat.{ℕ, suc, zero, _+_, _≤_, _<_}
+-- Well formed operations: the test of one, and of several in a row, is true exactly where they are well formed.
+use Prim.Native.Nat.{ℕ, _+_, _≤_}
 use mathlib.Core.Bool.{Bool, true, _&&_}
 use mathlib.Core.List.{List, [], _∷_, map}
-use mathlib.Core.Path.{_≡_, refl, sym, subst, _∙_}
-use native.Mathlib.Nat.{add-zero}
+use mathlib.Core.Path.{_≡_, refl, sym, _∙_}
 use native.Mathlib.Omega.{arith}
 use lib.Dec.{leb}
 use lib.IntN.{ℤ, pos, negsuc, natAbs}
-use lib.ListN.{length, getD, length-map}
+use lib.ListN.{length, length-map}
 use borrow.Author.Tests.{le-leb, leb-true}
 use Rattle.codelist.specs.declared.Entry.{Entry}
 use Rattle.codelist.specs.declared.Op.{Op}
@@ -45,7 +44,7 @@ exponent-complete m (p, q) = both-made (leb 2 m) (leb m 8) (le-leb 2 m p) (le-le
 pair-sound : {P Q : Type 0} (a b : Bool) → (a ≡ true → P) → (b ≡ true → Q) → (a && b) ≡ true → P × Q
 pair-sound a b f g p = let t = both-true a b p in (f (t .0), g (t .1))
 
-op-sound : (e : ℕ) (o : Op) → wellFormedOp e o ≡ true → WellFormedOp e o
+pub op-sound : (e : ℕ) (o : Op) → wellFormedOp e o ≡ true → WellFormedOp e o
 op-sound e (Add i j) p = pair-sound _ _ (earlier-sound e i) (earlier-sound e j) p
 op-sound e (Mul i j) p = pair-sound _ _ (earlier-sound e i) (earlier-sound e j) p
 op-sound e (AddC i c) p = pair-sound _ _ (earlier-sound e i) (constant-sound c) p
@@ -71,11 +70,3 @@ pub ops-complete : (e : ℕ) (xs : List Entry) → WellFormedOps e xs → wellFo
 unfolding wellFormedOps
 ops-complete e [] w = refl
 ops-complete e (x ∷ xs) (p, q) = both-made _ _ (op-complete e (x .op) p) (ops-complete (e + 1) xs q)
-
--- Each by its index
-pub each-of : (e : ℕ) (xs : List Entry) → WellFormedOps e xs → (d : Entry) (k : ℕ) → k < length xs → WellFormedOp (e + k) (getD xs k d .op)
-each-of e [] w d k h = absurd (omega arith)
-each-of e (x ∷ xs) w d zero h = rw (add-zero e) (w .0)
-each-of e (x ∷ xs) w d (suc k) h =
-    let a : e + 1 + k ≡ e + suc k = omega arith in
-    subst (λ (m : ℕ). WellFormedOp m (getD xs k d .op)) a (each-of (e + 1) xs (w .1) d k (omega arith))

@@ -605,7 +605,7 @@ fn is_constant(c: i64) -> bool
 }
 
 // Whether an operation with `earlier` codelist lines before it is well formed.
-fn is_op_well_formed(earlier: u64, op: Op) -> bool
+pub fn is_op_well_formed(earlier: u64, op: Op) -> bool
     ensures { λ r. ⌜ r ≡ wellFormedOp earlier op ⌝ }
 {
     match op {

@@ -7,9 +7,10 @@ pub mod SumOver
 -- powers: D and U; the rows of 01's table as two forms
 pub mod Powers
 pub mod PowerForms
--- what the proofs of the functions use: fits, the inverse by sign, powers by products, the root, ranges in a list of numbers; loops over a
--- mask, and the sums that they make
+-- what the proofs of the functions use: fits, ranges of 0 alone, the inverse by sign, powers by products, the root, ranges in a list of
+-- numbers; loops over a mask, and the sums that they make
 pub mod Fitting
+pub mod Zeros
 pub mod Inverting
 pub mod Climbing
 pub mod Squares

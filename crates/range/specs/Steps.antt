@@ -1,7 +1,8 @@
 -- What private functions give, end by end, on the way to an operation of 01.
 use mathlib.Core.Path.{_≡_}
-use mathlib.Core.Bool.{true, false}
+use mathlib.Core.Bool.{Bool, true, false, _&&_}
 use Prim.Native.Nat.{ℕ, _*_, _≤_}
+use lib.Dec.{eqb}
 use lib.IntN.{ℤ, pos, negsuc, negℤ, natAbs, _*ℤ_}
 use lib.Signed.{leZ}
 use Rattle.exact.specs.Sqrt.{ceilSqrt}
@@ -36,6 +37,10 @@ invBelow a = kept (endsOver (negsuc 99999999) (fromTo (negℤ (a .high)) (negℤ
 -- from 0 on
 abbrev pub upTo : ℤ → Range
 upTo x = fromTo (pos 0) x
+
+-- whether both ends are 0
+unfoldable pub isZero : Range → Bool
+isZero r = eqb (natAbs (r .low)) 0 && eqb (natAbs (r .high)) 0
 
 -- from −β to β, β the root of x·y, rounded up
 abbrev pub aroundRoot : ℕ → ℕ → Range

@@ -10,7 +10,7 @@ ghost use Rattle.exact.specs.Div.{floorDiv, ceilDiv};
 ghost use Rattle.range.specs.Limit.{fromTo, isValid, bothValid, kept};
 ghost use Rattle.range.specs.Arithmetic.{lesserOf, greaterOf, endsSum, sumOf, endsNeg, negOf, timesOf};
 ghost use Rattle.range.specs.Arithmetic.{spreadOf, scaledOf, endsProduct, productOf, inverseOf, endsHull, hullOf};
-ghost use Rattle.range.specs.Steps.{Small, endsBy, sortedOf, endsOver, invAbove, invBelow, upTo};
+ghost use Rattle.range.specs.Steps.{Small, endsBy, sortedOf, endsOver, invAbove, invBelow, upTo, isZero};
 
 mod power; // power.rt: the power of a range
 mod root; // root.rt: the square root of a product, rounded up
@@ -80,6 +80,13 @@ impl Range {
         (-2_000_000_000 <= self.low) & ((self.low <= self.high) & (self.high <= 2_000_000_000))
     }
 
+    // Whether both ends are 0, as the slopes are of a factor that a line does not depend on: their products need not be worked out.
+    pub fn is_zero(self) -> bool
+        ensures { λ b. ⌜ b ≡ isZero self ⌝ }
+    {
+        (self.low == 0) & (self.high == 0)
+    }
+
     fn both_valid(self, other: Range) -> bool
         ensures { λ r. ⌜ r ≡ bothValid self other ⌝ }
     {
@@ -87,7 +94,7 @@ impl Range {
     }
 
     // This range, if it is one.
-    pub fn kept(self) -> Range
+    fn kept(self) -> Range
         ensures { λ r. ⌜ r ≡ kept self ⌝ }
     {
         if self.valid() { self } else { Range::OVER }

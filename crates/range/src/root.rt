@@ -14,26 +14,31 @@ fn half_digits(x: u64) -> u32
     if zeros <= 64 { (64 - zeros) / 2 } else { 0 }
 }
 
-// A first step of Newton's rule, from a power of 2 near the root of x, where a shift divides.
+// A first step of Newton's rule, from a power of 2 near the root of x, where a shift divides. The step errs upward, by up to 6%; a 32nd off,
+// it errs by 3% either way.
 fn first_near(x: u64) -> u64
     requires { ⌜ x ≤ 4000000000000000000 ⌝ }
     ensures { λ r. ⌜ (1 ≤ r) × (r ≤ 4000000000000000000) ⌝ }
 {
     let h = half_digits(x);
-    ((1u64 << h) + (x >> h)) / 2 + 1
+    let r = ((1u64 << h) + (x >> h)) / 2;
+    r - r / 32 + 1
 }
 
-// Near the root of x, by Newton's rule: nothing rests on how near. The power of 2 is within a factor of 2 of the root, so that four steps in
-// all, three of which divide, come within 1 of it.
+// Near the root of x, by Newton's rule: nothing rests on how near. Each step squares the error, so that two that divide come within 1 of a
+// root up to a million, and a third within 1 of any.
 fn near_root(x: u64) -> u64
     requires { ⌜ x ≤ 4000000000000000000 ⌝ }
     ensures { λ r. ⌜ r ≤ 2000000000 ⌝ }
 {
     let mut r = first_near(x);
     let mut k: u64 = 0;
-    while k < 3 {
+    while k < 2 {
         r = (r + x / r) / 2 + 1;
         k += 1;
+    }
+    if 1_000_000 < r {
+        r = (r + x / r) / 2 + 1;
     }
     if r <= 2_000_000_000 { r } else { 2_000_000_000 }
 }

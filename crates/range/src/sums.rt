@@ -7,7 +7,7 @@ ghost use lib.IntN.{pos, natAbs};
 ghost use lib.ListN.{getD};
 ghost use lib.Signed.{leZ};
 ghost use Rattle.range.specs.Limit.{isValid};
-ghost use Rattle.range.specs.Arithmetic.{sumOf};
+ghost use Rattle.range.specs.Arithmetic.{sumOf, endsProduct};
 ghost use Rattle.range.specs.Sums.{at, rangesFrom, productsOf, largestSquare, squaresOf, rootOf};
 ghost use Rattle.range.specs.Steps.{upTo};
 use super::Range;
@@ -38,7 +38,22 @@ impl Range {
         requires { ⌜ isValid self ≡ true ⌝ }
         ensures { λ r. ⌜ r ≡ upTo (largestSquare self) ⌝ }
     {
+        if self.is_zero() {
+            return Range::ZERO;
+        }
         self.end_by_end(self).sorted().scaled().from_zero()
+    }
+
+    // The ends of the product of two slopes: many are zero.
+    fn slopes_product(self, other: Range) -> Range
+        requires { ⌜ isValid self ≡ true ⌝ }
+        requires { ⌜ isValid other ≡ true ⌝ }
+        ensures { λ r. ⌜ r ≡ endsProduct self other ⌝ }
+    {
+        if self.is_zero() | other.is_zero() {
+            return Range::ZERO;
+        }
+        self.ends_product(other)
     }
 
     // The high end of a range that is not below 0.
@@ -68,7 +83,7 @@ impl Range {
                 if !g.both_valid(h) {
                     return Range::OVER;
                 }
-                products = products.ends_sum(g.ends_product(h));
+                products = products.ends_sum(g.slopes_product(h));
                 left = left.ends_sum(g.ends_square());
                 right = right.ends_sum(h.ends_square());
             }

@@ -1,36 +1,39 @@
 -- `bounds::rows::factor` meets its contract. Assumes nothing.
 use borrow.Author.Needs.{needs}
-use mathlib.Core.Path.{sym, ap, _∙_}
+use mathlib.Core.Logic.{inl}
 use native.Mathlib.Omega.{arith}
-use Rattle.rules.specs.Run.{within}
-use Rattle.bounds.proofs.Factors.{factor-line, factor-fine}
-use Rattle.bounds.proofs.Settled.{gradient-valid}
+use Rattle.bounds.proofs.Factors.{one-valid, factor-placed}
+use Rattle.bounds.proofs.Settled.{zero-valid}
 use Rattle.bounds.proofs.rows.factor.Statement.{statement}
 use Rattle.bounds.proofs.rows.factor.Tie as tie
 
-settle-requires : tie.Need-settle-requires
-settle-requires c κs =
-    let s = c .before .before in
-    let few = s .pre .0 in
-    let is = factor-line (s .args .a) (s .args .r) few in
-    let valid = ap within is ∙ factor-fine (s .args .a) (s .args .r) (s .pre .1) .valid in
-    (omega (arith, few), sym (gradient-valid _ valid))
+put-slope-requires : tie.Need-put-slope-requires
+put-slope-requires c κs =
+    let few = c .before .before .before .before .before .pre .0 in
+    (omega (arith, few), (few, inl one-valid))
+
+put-head-requires : tie.Need-put-head-requires
+put-head-requires c κs =
+    let pre = c .before .before .before .before .before .before .before .before .pre in
+    (omega (arith, pre .0), (pre .1 .1, zero-valid))
 
 returns : tie.Need-returns
 returns c =
-    let s = c .before .before .before in
-    let settled = c .settle .ensures in
-    let is = factor-line (s .args .a) (s .args .r) (s .pre .0) in
-    let valid = ap within is ∙ factor-fine (s .args .a) (s .args .r) (s .pre .1) .valid in
-    record { line = settled .line (settled .tells ∙ valid) ∙ is; others = settled .others }
+    let slope = c .before .before .before in
+    let sets = slope .before .before in
+    let sized = sets .before .before in
+    let s = sized .before .before in
+    factor-placed _ (s .args .a) (s .pre .0) (sized .sized .ensures) (s .pre .1 .0) _ (slope .put-slope .ensures)
+    (s .args .r) _ _ _ (c .put-head .ensures) (sets .sized-sets .ensures)
 
 pub factor-spec : {M : Type 1} → statement M
 factor-spec =
     tie.close
     (tie.spec
+    (λ c κs. search needs)
+    (λ c κs. search needs)
+    put-slope-requires
     (λ c. search needs)
     (λ c. search needs)
-    (λ c. search needs)
-    (λ c. search needs)
-    settle-requires
+    put-head-requires
     returns)

@@ -1,8 +1,17 @@
 -- `bounds::rows::inverse_spectrum` meets its contract. Assumes nothing.
 use borrow.Author.Needs.{needs}
+use mathlib.Core.Path.{ap, _∙_}
+use Rattle.range.specs.Limit.{isValid}
 use Rattle.rules.specs.Table.{invRow}
+use Rattle.bounds.proofs.Operands.{told-valid}
+use Rattle.bounds.proofs.Settled.{spectrum-valid}
 use Rattle.bounds.proofs.rows.inverse_spectrum.Statement.{statement}
 use Rattle.bounds.proofs.rows.inverse_spectrum.Tie as tie
+
+extended-requires : tie.Need-extended-requires
+extended-requires c κs =
+    let start = c .before .before .before .before .before .before in
+    told-valid _ (ap isValid (c .before .spectrum .ensures) ∙ spectrum-valid _ (start .pre .1 .0 .valid))
 
 returns : tie.Need-returns
 unfolding invRow
@@ -23,7 +32,7 @@ returns c =
       times .before .product .ensures,
       square .of-square .ensures,
       square .before .support .ensures,
-      square .before .before .pre .1,
+      square .before .before .pre .1 .1,
     )
 
 pub inverse-spectrum-spec : {M : Type 1} → statement M
@@ -36,7 +45,7 @@ inverse-spectrum-spec =
     (λ c κs. search needs)
     (λ c κs. search needs)
     (λ c κs. search needs)
-    (λ c κs. search needs)
+    extended-requires
     (λ c κs. search needs)
     (λ c κs. search needs)
     (λ c κs. search needs)

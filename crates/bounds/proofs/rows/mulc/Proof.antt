@@ -1,15 +1,17 @@
 -- `bounds::rows::mulc` meets its contract. Assumes nothing.
 use borrow.Author.Needs.{needs}
-use mathlib.Core.Path.{_≡_, ap, ap₂, _∙_}
+use mathlib.Core.Path.{_≡_, sym, ap, ap₂, subst, _∙_}
 use mathlib.Core.Bool.{true}
 use denote.Ref.{now}
 use Rattle.range.specs.Limit.{fromTo, isValid}
 use Rattle.range.specs.Arithmetic.{productOf}
 use Rattle.range.specs.Sums.{at}
 use Rattle.rules.specs.Table.{mulcRow}
+use Rattle.bounds.specs.Terms.{Told}
 use Rattle.bounds.specs.Table.{gradientAt}
+use Rattle.bounds.proofs.Operands.{told-product}
 use Rattle.bounds.proofs.Settled.{value-valid, spectrum-valid}
-use Rattle.bounds.proofs.Working.{slopes-tell, refers-inside, refers-valid, worked}
+use Rattle.bounds.proofs.Working.{refers-valid, settle-asks, worked}
 use Rattle.bounds.proofs.Zeros.{zero-product, point-valid}
 use Rattle.bounds.proofs.rows.mulc.Statement.{statement}
 use Rattle.bounds.proofs.rows.mulc.Tie as tie
@@ -25,26 +27,33 @@ point : (c : tie.After-new) → c .new .result ≡ fromTo (start c .args .c) (st
 point c = search (needs, c .new .ensures)
 
 constant-valid : (c : tie.After-new) → isValid (c .new .result) ≡ true
-constant-valid c = ap isValid (point c) ∙ point-valid _ (start c .pre .1 .1)
+constant-valid c = ap isValid (point c) ∙ point-valid _ (start c .pre .1 .1 .1)
 
 product-requires : tie.Need-product-requires
 product-requires c κs =
     let new = c .before .before in
-    (constant-valid new, ap isValid (c .value .ensures) ∙ value-valid _ (start new .pre .1 .0 .fine .valid))
+    (constant-valid new, ap isValid (c .value .ensures) ∙ value-valid _ (start new .pre .1 .1 .0 .fine .valid))
 
 product-requires-2 : tie.Need-product-requires-2
 product-requires-2 c κs =
     let new = c .before .before .before .before .before in
-    (constant-valid new, ap isValid (c .spectrum .ensures) ∙ spectrum-valid _ (start new .pre .1 .0 .fine .valid))
+    (constant-valid new, ap isValid (c .spectrum .ensures) ∙ spectrum-valid _ (start new .pre .1 .1 .0 .fine .valid))
 
 scaled-requires : tie.Need-scaled-requires
 scaled-requires c κs =
     let new = c .before .before .before .before .before .before .before in
     let pre = start new .pre in
-    (refers-inside (pre .1 .0) (pre .0), (refers-valid (pre .1 .0), constant-valid new))
+    let line = pre .1 .1 .0 in
+    (pre .0, (pre .1 .0, (line .earlier, (refers-valid line, constant-valid new))))
 
 settle-requires : tie.Need-settle-requires
-settle-requires c κs = (head-start c .pre .0, slopes-tell _ _ (c .before .before .scaled .ensures))
+settle-requires c κs =
+    let slopes = c .before .before in
+    let spectra = slopes .before .before in
+    let values = spectra .before .before .before in
+    settle-asks _ _ _ _ _ _ _ (head-start c .pre .0) (slopes .scaled .ensures)
+    (subst Told (sym (values .product .ensures)) (told-product _ _))
+    (subst Told (sym (spectra .product2 .ensures)) (told-product _ _))
 
 returns : tie.Need-returns
 unfolding mulcRow
@@ -64,8 +73,8 @@ returns c =
     })
     _
     (λ a l. productOf (point new l) (at (gradientAt (now (s .args .t)) (s .args .i)) a))
-    (λ a o. ap (productOf _) (s .pre .1 .0 .fine .flat a o) ∙ zero-product _ (point-valid _ (s .pre .1 .1)))
-    _ _ _ _ _ _ _ (slopes .scaled .ensures) (c .settle .ensures)
+    (λ a o. ap (productOf _) (s .pre .1 .1 .0 .fine .flat a o) ∙ zero-product _ (point-valid _ (s .pre .1 .1 .1)))
+    _ _ _ _ _ _ _ _ (slopes .scaled .ensures) (c .settle .ensures)
 
 pub mulc-spec : {M : Type 1} → statement M
 mulc-spec =

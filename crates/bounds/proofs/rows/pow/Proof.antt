@@ -1,6 +1,6 @@
 -- `bounds::rows::pow` meets its contract. Assumes nothing.
 use borrow.Author.Needs.{needs}
-use mathlib.Core.Path.{_≡_, sym, ap, _∙_}
+use mathlib.Core.Path.{_≡_, sym, ap, subst, _∙_}
 use mathlib.Core.Bool.{true}
 use Prim.Native.Nat.{_-_}
 use borrow.Author.Tests.{not-true, not-false}
@@ -11,8 +11,11 @@ use Rattle.range.specs.Arithmetic.{timesOf, productOf}
 use Rattle.range.specs.Power.{powOf}
 use Rattle.range.specs.Sums.{at}
 use Rattle.rules.specs.Table.{powRow}
+use Rattle.bounds.specs.Terms.{Told}
 use Rattle.bounds.specs.Table.{valueAt, gradientAt}
-use Rattle.bounds.proofs.Working.{slopes-tell, refers-inside, refers-valid, worked, worked-over}
+use Rattle.bounds.proofs.Heads.{told-pow}
+use Rattle.bounds.proofs.Operands.{told-power}
+use Rattle.bounds.proofs.Working.{refers-inside, refers-valid, settle-asks, worked, worked-over}
 use Rattle.bounds.proofs.Zeros.{zero-power, power-over}
 use Rattle.bounds.proofs.rows.pow.Statement.{statement}
 use Rattle.bounds.proofs.rows.pow.Tie as tie
@@ -33,18 +36,32 @@ power-valid c = sym (c .before .valid .ensures) ∙ not-false _ (c .if1 .left)
 returns : tie.Need-returns
 unfolding powRow
 returns c =
-    let power = c .before .before in
-    let over = sym (c .before .valid .ensures ∙ ap isValid (power-is power)) ∙ not-true _ (c .if1 .taken) in
-    worked-over _ _ _ _ (power-over _ over _ (start power .args .m))
+    let test = c .before in
+    let power = test .before .before in
+    let over = sym (test .before .valid .ensures ∙ ap isValid (power-is power)) ∙ not-true _ (test .if1 .taken) in
+    worked-over _ _ _ _ _ (c .none .ensures) (power-over _ over _ (start power .args .m))
+
+power-spectrum-requires : tie.Need-power-spectrum-requires
+power-spectrum-requires c κs =
+    let pre = start (c .before .before .before .before .before) .pre in
+    let line = pre .1 .1 .0 in
+    (refers-inside line (pre .0), (line .fine, pre .1 .1 .1))
 
 raised-requires : tie.Need-raised-requires
 raised-requires c κs =
     let test = c .before .before .before .before .before in
     let pre = start (test .before .before) .pre in
-    (refers-inside (pre .1 .0) (pre .0), (refers-valid (pre .1 .0), power-valid test))
+    let line = pre .1 .1 .0 in
+    (pre .0, (pre .1 .0, (line .earlier, (refers-valid line, power-valid test))))
 
 settle-requires : tie.Need-settle-requires
-settle-requires c κs = (head-start c .pre .0, slopes-tell _ _ (c .before .before .raised .ensures))
+settle-requires c κs =
+    let slopes = c .before .before in
+    let spectra = slopes .before .before in
+    let values = spectra .before .before .before in
+    settle-asks _ _ _ _ _ _ _ (head-start c .pre .0) (slopes .raised .ensures)
+    (subst Told (sym (values .power2 .ensures)) (told-power _ _))
+    (told-pow _ _ _ (spectra .power-spectrum .ensures))
 
 returns-2 : tie.Need-returns-2
 unfolding powRow
@@ -67,8 +84,8 @@ returns-2 c =
     })
     _
     (λ a l. timesOf m (productOf (power-is power l) (at (gradientAt (now (s .args .t)) (s .args .i)) a)))
-    (λ a o. zero-power _ _ m (sym (ap isValid (power-is power)) ∙ power-valid test) (s .pre .1 .0 .fine .flat a o))
-    _ _ _ _ _ _ _ (slopes .raised .ensures) (c .settle .ensures)
+    (λ a o. zero-power _ _ m (sym (ap isValid (power-is power)) ∙ power-valid test) (s .pre .1 .1 .0 .fine .flat a o))
+    _ _ _ _ _ _ _ _ (slopes .raised .ensures) (c .settle .ensures)
 
 pub pow-spec : {M : Type 1} → statement M
 pow-spec =
@@ -79,9 +96,10 @@ pow-spec =
     (λ c. search needs)
     (λ c κs. search needs)
     (λ c κs. search needs)
+    (λ c κs. search needs)
     returns
     (λ c κs. search needs)
-    (λ c κs. search needs)
+    power-spectrum-requires
     raised-requires
     settle-requires
     returns-2)

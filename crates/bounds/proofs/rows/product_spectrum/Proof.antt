@@ -2,7 +2,11 @@
 use borrow.Author.Needs.{needs}
 use mathlib.Core.Path.{ap, _∙_}
 use Rattle.range.specs.Limit.{isValid}
+use Rattle.rules.specs.Sets.{_∪_}
 use Rattle.rules.specs.Table.{mulRow}
+use Rattle.bounds.specs.Terms.{Told}
+use Rattle.bounds.specs.Table.{gradientAt}
+use Rattle.bounds.proofs.Operands.{told-product, told-extended, told-sum-spectrum, told-cross-spectrum}
 use Rattle.bounds.proofs.Settled.{value-valid, spectrum-valid}
 use Rattle.bounds.proofs.rows.product_spectrum.Statement.{statement}
 use Rattle.bounds.proofs.rows.product_spectrum.Tie as tie
@@ -25,8 +29,32 @@ product-requires-2 c κs =
       ap isValid (c .spectrum2 .ensures) ∙ spectrum-valid _ (lines .1 .valid),
     )
 
+of-sum-requires : tie.Need-of-sum-requires
+of-sum-requires c κs = (
+  rw (c .before .before .before .product .ensures) (told-product _ _),
+  rw (c .product2 .ensures) (told-product _ _),
+)
+
 of-cross-requires : tie.Need-of-cross-requires
 of-cross-requires c κs = let pre = start (c .before .before .before .before) .pre in (pre .0, pre .1 .0)
+
+-- the two lines' own spectra, joined
+own-told : (c : tie.After-of-sum) → Told (c .of-sum .result)
+own-told c = rw (c .of-sum .ensures) (told-sum-spectrum _ _ _ _)
+
+told-sum-requires : tie.Need-told-sum-requires
+told-sum-requires c κs =
+    let own = c .before .before in
+    let first = own .before .before .before .before in
+    let args = start first .args in
+    let slopes = gradientAt (args .t .now) in
+    let bends = first .before .before .before in
+    let sets = bends .before .before in
+    let b = bends .before .nonlinear .result ∪ bends .nonlinear2 .result in
+    let p = sets .before .support .result ∪ sets .support2 .result in (
+      rw (c .before .of-cross .ensures) (told-cross-spectrum p (slopes (args .i)) (slopes (args .j))),
+      rw (c .extended .ensures) (told-extended _ b p (own-told own)),
+    )
 
 returns : tie.Need-returns
 unfolding mulRow
@@ -37,7 +65,7 @@ returns c =
     let first = second .before .before .before in
     let sets = first .before .before .before in
     rw (
-      c .sum .ensures,
+      c .told-sum .ensures,
       cross .of-cross .ensures,
       c .before .extended .ensures,
       own .of-sum .ensures,
@@ -67,8 +95,8 @@ product-spectrum-spec =
     (λ c κs. search needs)
     (λ c κs. search needs)
     product-requires-2
-    (λ c κs. search needs)
+    of-sum-requires
     of-cross-requires
-    (λ c κs. search needs)
-    (λ c κs. search needs)
+    (λ c κs. own-told (c .before))
+    told-sum-requires
     returns)

@@ -12,17 +12,26 @@ use Rattle.bounds.proofs.rows.settle.Tie as tie
 
 -- what the test found
 tested : (c : tie.After-struct-known) → let s = c .before .before .before .before .before in
-    (c .before .before .valid .result && (s .args .g .valid && c .before .valid2 .result)) ≡ within (lineWith (s .args .h) (s .args .g))
+    (c .before .before .is-range .result && (s .args .g .valid && c .before .is-range2 .result)) ≡ within (lineWith (s .args .h) (s .args .g))
 unfolding within
 tested c =
     let s = c .before .before .before .before .before in
-    ap₂ _&&_ (c .before .before .valid .ensures) (ap₂ _&&_ (s .pre .1) (c .before .valid2 .ensures))
+    ap₂ _&&_ (c .before .before .is-range .ensures) (ap₂ _&&_ (s .pre .1 .0) (c .before .is-range2 .ensures))
 
 valid : (c : tie.Else1) → let s = c .before .before .before .before .before .before in within (lineWith (s .args .h) (s .args .g)) ≡ true
 valid c = sym (tested (c .before)) ∙ not-false _ (c .if1 .left)
 
 returns : tie.Need-returns
-returns c = record { tells = sym (sym (tested (c .before)) ∙ not-true _ (c .if1 .taken)); line = λ e. absurd (false≢true e); others = λ q n. refl }
+returns c =
+    let test = c .before in
+    let none = c .none .ensures in
+    let never : c .none .result .valid ≡ true → ⊥ = λ e. false≢true (sym none ∙ e) in
+    record {
+      tells = none ∙ sym (sym (tested (test .before)) ∙ not-true _ (test .if1 .taken));
+      slopes = λ e. absurd (never e);
+      line = λ e. absurd (never e);
+      others = λ q n. refl;
+    }
 
 put-head-requires : tie.Need-put-head-requires
 put-head-requires c κs =
@@ -30,20 +39,15 @@ put-head-requires c κs =
     let v = valid test in
     (test .before .before .before .before .before .before .pre .0, (value-valid _ v, spectrum-valid _ v))
 
-put-requires : tie.Need-put-requires
-put-requires c κs =
-    let test = c .before .before .before .before .before .before .before .before .before in
-    (test .before .before .before .before .before .before .pre .0, gradient-valid _ (valid test))
-
 returns-2 : tie.Need-returns-2
 returns-2 c =
-    let head = c .before .before .before in
-    let sized = head .before .before .before in
+    let sized = c .before .before .before in
     let test = sized .before .before .before .before in
     let s = test .before .before .before .before .before .before in
-    let p = placed (s .args .t .now) (s .args .s .now) _ _ (s .args .g) _ _ _ (head .put-head .ensures) (c .put .ensures)
+    let p = placed (s .args .t .now) (s .args .s .now) _ _ (s .args .g) _ _ (c .put-head .ensures) (s .pre .1 .1 .1 .1)
     (sized .before .before .sized .ensures) (sized .sized-sets .ensures) (s .pre .0) in
-    record { tells = sym (valid test); line = λ e. p .line; others = p .others }
+    let all = valid test in
+    record { tells = s .pre .1 .0 ∙ gradient-valid _ all ∙ sym all; slopes = λ e. refl; line = λ e. p .line; others = p .others }
 
 pub settle-spec : {M : Type 1} → statement M
 settle-spec =
@@ -51,9 +55,9 @@ settle-spec =
     (tie.spec
     (λ c κs. search needs)
     (λ c κs. search needs)
+    (λ c κs. search needs)
     returns
     (λ c κs. search needs)
     (λ c κs. search needs)
     put-head-requires
-    put-requires
     returns-2)

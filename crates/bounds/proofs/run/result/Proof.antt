@@ -1,13 +1,16 @@
 -- `bounds::run::result` meets its contract. Assumes nothing.
 use borrow.Author.Needs.{needs}
-use mathlib.Core.Path.{_≡_, _∙_}
+use mathlib.Core.Path.{_≡_, ap, _∙_}
 use native.Mathlib.Omega.{arith}
 use Prim.Native.Nat.{ℕ, _-_, _≤_, _^_, _*_, _%_}
 use lib.Dec.{lit<}
 use lib.Pow.{pow-pos, pow-mono}
+use Rattle.range.specs.Limit.{isValid}
 use Rattle.rules.specs.Rate.{limitsOf, rated}
 use Rattle.bounds.specs.Terms.{extendedOf}
 use Rattle.bounds.proofs.Factors.{shifted}
+use Rattle.bounds.proofs.Operands.{told-valid}
+use Rattle.bounds.proofs.Settled.{spectrum-valid}
 use Rattle.bounds.proofs.run.result.Statement.{statement}
 use Rattle.bounds.proofs.run.result.Tie as tie
 
@@ -16,12 +19,18 @@ all-of : (n : ℕ) → n ≤ 8 → 1 * 2 ^ n % 65536 ≡ 2 ^ n
 all-of n h = shifted n 8 65536 h (lit< tt)
 
 sub-all : tie.Need-sub-all
-sub-all c = let start = c .before .before .before .before in rw (all-of _ (start .pre .0)) (pow-pos (start .args .n))
+sub-all c = let start = c .before .before .before in rw (all-of _ (start .pre .0)) (pow-pos (start .args .n))
 
 cast-all : tie.Need-cast-all
 cast-all c =
-    let start = c .before .before .before .before in
+    let start = c .before .before .before in
     rw (all-of _ (start .pre .0)) (omega (arith, pow-mono {i = start .args .n} {j = 8} (start .pre .0)))
+
+extended-requires : tie.Need-extended-requires
+extended-requires c κs =
+    let spectrum = c .before in
+    let fine = spectrum .before .before .pre .1 .1 .0 in
+    told-valid _ (ap isValid (spectrum .spectrum .ensures) ∙ spectrum-valid _ (fine .valid))
 
 returns : tie.Need-returns
 unfolding limitsOf
@@ -29,15 +38,14 @@ returns c =
     let full = c .before in
     let bent = full .before in
     let spectrum = bent .before in
-    let gradient = spectrum .before in
-    let value = gradient .before in
+    let value = spectrum .before in
     let e = spectrum .spectrum .ensures in
     let b = bent .nonlinear .ensures in
     let all = all-of _ (value .before .pre .0) in
     let whole = full .extended .ensures ∙ (λ i. extendedOf (e i) (b i) (all i - 1)) in
     λ i. rated (record {
       value = value .value .ensures i;
-      gradient = gradient .gradient .ensures i;
+      gradient = value .before .pre .1 .1 .1 i;
       support = c .support .ensures i;
       nonlinear = b i;
       spectrum = e i;
@@ -51,10 +59,9 @@ result-spec =
     (λ c κs. search needs)
     (λ c κs. search needs)
     (λ c κs. search needs)
-    (λ c κs. search needs)
     (λ c. search needs)
     sub-all
     cast-all
-    (λ c κs. search needs)
+    extended-requires
     (λ c κs. search needs)
     returns)

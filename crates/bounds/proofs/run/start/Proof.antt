@@ -32,7 +32,10 @@ factor-requires c κs =
     let test = c .before .before .before in
     let start = test .before .before in (
       omega (arith, start .pre .1 .1 .0, test .loop-test .taken),
-      ap isValid (c .range-at .ensures) ∙ each-at (pairs (start .args .xs .now)) (start .pre .1 .1 .1) (test .before .loop .k),
+      (
+        test .before .loop .inv .1 .ready .blank _ (N.le-refl _),
+        ap isValid (c .range-at .ensures) ∙ each-at (pairs (start .args .xs .now)) (start .pre .1 .1 .1) (test .before .loop .k),
+      ),
     )
 
 add-k : tie.Need-add-k Inv-loop μ-loop

@@ -1,9 +1,9 @@
 -- `bounds::run::work` meets its contract. Assumes nothing.
 use borrow.Author.Needs.{needs}
 use mathlib.Core.Path.{_≡_, sym, subst}
-use mathlib.Core.Bool.{Bool}
 use mathlib.Core.List.{List}
 use Prim.Native.Nat.{ℕ, _-_, _≤_}
+use native.Mathlib.Nat as N
 use lib.IntN.{ℤ}
 use Rattle.codelist.specs.declared.Op.{Op}
 use Rattle.codelist.specs.Codelist.{Earlier, WellFormedOp}
@@ -11,10 +11,15 @@ use Rattle.codelist.proofs.Laws.{back}
 use Rattle.rules.specs.declared.Line.{Line}
 use Rattle.rules.specs.Table.{addRow, addcRow, mulcRow, mulRow, powRow, invRow}
 use Rattle.rules.specs.Run.{rowOf}
-use Rattle.bounds.specs.Table.{Refers, linesUpTo, Worked}
+use Rattle.bounds.specs.declared.slopes.Slopes.{Slopes}
+use Rattle.bounds.specs.Table.{Refers, linesUpTo, Blank, Worked}
 use Rattle.bounds.proofs.Running as R
 use Rattle.bounds.proofs.run.work.Statement.{statement}
 use Rattle.bounds.proofs.run.work.Tie as tie
+
+-- no slope of the line is written
+bare : (m : tie.Start) → Blank (m .args .t .now) (m .args .k)
+bare m = m .pre .1 .0 .blank (m .args .k) (N.le-refl _)
 
 -- what an arm of the match knows of its operation q
 module _ (m : tie.Start) (q : Op) (e : m .args .op ≡ q) where
@@ -28,12 +33,12 @@ module _ (m : tie.Start) (q : Op) (e : m .args .op ≡ q) where
   refers j i r f = R.refers _ _ _ (m .pre .1 .0) j i r f
 
   -- the row of q is that of the operation
-  worked : (ok : Bool) (u : List ℤ) (v : List ℕ)
-      → Worked (rowOf q (linesUpTo (m .args .t .now) (m .args .s .now) (m .args .k))) (m .args .t .now) (m .args .s .now) (m .args .k) ok u v
-      → Worked (rowOf (m .args .op) (linesUpTo (m .args .t .now) (m .args .s .now) (m .args .k))) (m .args .t .now) (m .args .s .now) (m .args .k) ok u v
-  worked ok u v =
+  worked : (r : Slopes) (u : List ℤ) (v : List ℕ)
+      → Worked (rowOf q (linesUpTo (m .args .t .now) (m .args .s .now) (m .args .k))) (m .args .t .now) (m .args .s .now) (m .args .k) r u v
+      → Worked (rowOf (m .args .op) (linesUpTo (m .args .t .now) (m .args .s .now) (m .args .k))) (m .args .t .now) (m .args .s .now) (m .args .k) r u v
+  worked r u v =
       subst
-      (λ (o : Op). Worked (rowOf o (linesUpTo (m .args .t .now) (m .args .s .now) (m .args .k))) (m .args .t .now) (m .args .s .now) (m .args .k) ok u v)
+      (λ (o : Op). Worked (rowOf o (linesUpTo (m .args .t .now) (m .args .s .now) (m .args .k))) (m .args .t .now) (m .args .s .now) (m .args .k) r u v)
       (sym e)
 
 index-requires : tie.Need-index-requires
@@ -48,7 +53,7 @@ add-requires c κs =
     let m = o .before .before in
     let e = o .op .given .1 in
     let w = well m _ e in
-    (m .pre .1 .1, (refers m _ e _ _ (w .0) (c .before .index .ensures .0), refers m _ e _ _ (w .1) (c .index2 .ensures .0)))
+    (m .pre .1 .1, (bare m, (refers m _ e _ _ (w .0) (c .before .index .ensures .0), refers m _ e _ _ (w .1) (c .index2 .ensures .0))))
 
 index-requires-3 : tie.Need-index-requires-3
 index-requires-3 c κs = let o = c .before .before .before in indexed (o .before .before) _ (o .op2 .given .1) _ (well (o .before .before) _ (o .op2 .given .1) .0)
@@ -62,7 +67,7 @@ mul-requires c κs =
     let m = o .before .before in
     let e = o .op2 .given .1 in
     let w = well m _ e in
-    (m .pre .1 .1, (refers m _ e _ _ (w .0) (c .before .index3 .ensures .0), refers m _ e _ _ (w .1) (c .index4 .ensures .0)))
+    (m .pre .1 .1, (bare m, (refers m _ e _ _ (w .0) (c .before .index3 .ensures .0), refers m _ e _ _ (w .1) (c .index4 .ensures .0))))
 
 index-requires-5 : tie.Need-index-requires-5
 index-requires-5 c κs = let o = c .before .before .before in indexed (o .before .before) _ (o .op3 .given .1) _ (well (o .before .before) _ (o .op3 .given .1) .0)
@@ -84,7 +89,7 @@ mulc-requires c κs =
     let m = o .before .before in
     let e = o .op4 .given .1 in
     let w = well m _ e in
-    (m .pre .1 .1, (refers m _ e _ _ (w .0) (c .index6 .ensures .0), rw (back _ (c .before .before .before .known-told4 .given .1 .0 .1)) (w .1)))
+    (m .pre .1 .1, (bare m, (refers m _ e _ _ (w .0) (c .index6 .ensures .0), rw (back _ (c .before .before .before .known-told4 .given .1 .0 .1)) (w .1))))
 
 index-requires-7 : tie.Need-index-requires-7
 index-requires-7 c κs = let o = c .before .before .before in indexed (o .before .before) _ (o .op5 .given .1) _ (well (o .before .before) _ (o .op5 .given .1) .0)
@@ -95,7 +100,7 @@ pow-requires c κs =
     let m = o .before .before in
     let e = o .op5 .given .1 in
     let w = well m _ e in
-    (m .pre .1 .1, (refers m _ e _ _ (w .0) (c .index7 .ensures .0), w .1 .0))
+    (m .pre .1 .1, (bare m, (refers m _ e _ _ (w .0) (c .index7 .ensures .0), w .1 .0)))
 
 index-requires-8 : tie.Need-index-requires-8
 index-requires-8 c κs = let o = c .before .before .before in indexed (o .before .before) _ (o .op6 .given .1) _ (well (o .before .before) _ (o .op6 .given .1))
@@ -106,7 +111,7 @@ inv-requires c κs =
     let m = o .before .before in
     let e = o .op6 .given .1 in
     let w = well m _ e in
-    (m .pre .1 .1, refers m _ e _ _ (w) (c .index8 .ensures .0))
+    (m .pre .1 .1, (bare m, refers m _ e _ _ w (c .index8 .ensures .0)))
 
 returns : tie.Need-returns
 unfolding rowOf

@@ -2,6 +2,7 @@
 use borrow.Author.Needs.{needs}
 use mathlib.Core.Path.{_∙_, ap}
 use mathlib.Core.List.{List}
+use mathlib.Core.Logic.{inl}
 use Prim.Native.Nat.{_+_, _*_}
 use lib.IntN.{ℤ}
 use Rattle.bounds.specs.Table.{putPair}
@@ -19,10 +20,10 @@ put-head-spec =
     tie.close
     (tie.spec
     (λ c. search needs)
-    (λ c κs. search needs)
+    (λ c κs. search (needs, inl))
     (λ c. search needs)
     (λ c. search needs)
-    (λ c κs. search needs)
+    (λ c κs. search (needs, inl))
     (λ c. search needs)
     (λ c. search needs)
     (λ c. search needs)

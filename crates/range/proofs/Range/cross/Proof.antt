@@ -50,14 +50,14 @@ module _ (c : tie.Else2 Inv-loop μ-loop) where
   right-valid : isValid (c .before .before .range-at2 .result) ≡ true
   right-valid = second-valid _ _ _ (c .before .both-valid .ensures) (not-false _ (c .if2 .left))
 
-ends-product-requires : tie.Need-ends-product-requires Inv-loop μ-loop
-ends-product-requires c κs = (left-valid c, right-valid c)
+slopes-product-requires : tie.Need-slopes-product-requires Inv-loop μ-loop
+slopes-product-requires c κs = (left-valid c, right-valid c)
 
 ends-sum-requires : tie.Need-ends-sum-requires Inv-loop μ-loop
 ends-sum-requires c κs =
     let valid = c .before in
     let inv = valid .before .before .before .before .before .before .loop .inv in
-    (summed-small _ _ _ _ _ (inv .summed), rw (c .ends-product .ensures) (few-small (product-few _ _ (left-valid valid) (right-valid valid))))
+    (summed-small _ _ _ _ _ (inv .summed), rw (c .slopes-product .ensures) (few-small (product-few _ _ (left-valid valid) (right-valid valid))))
 
 ends-square-requires : tie.Need-ends-square-requires Inv-loop μ-loop
 ends-square-requires c κs = left-valid (c .before .before)
@@ -126,7 +126,7 @@ cross-spec =
     range-at-requires-2
     (λ c κs. tt)
     returns
-    ends-product-requires
+    slopes-product-requires
     ends-sum-requires
     ends-square-requires
     ends-sum-requires-2

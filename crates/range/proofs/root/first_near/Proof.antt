@@ -14,11 +14,11 @@ sum-bound c =
     let h = c .half-digits .result in
     omega (arith, pow-mono {i = h} {j = 32} (c .half-digits .ensures), div-le-self (c .before .args .x) (2 ^ h))
 
+add-r : tie.Need-add-r
+add-r c = omega (arith, sum-bound c)
+
 add-result : tie.Need-add-result
 add-result c = omega (arith, sum-bound c)
-
-add-result-2 : tie.Need-add-result-2
-add-result-2 c = omega (arith, sum-bound c)
 
 returns : tie.Need-returns
 returns c = omega (arith, sum-bound c)
@@ -32,6 +32,7 @@ first-near-spec =
     (λ c. search needs)
     (λ c. search needs)
     (λ c. search needs)
+    add-r
+    (λ c. search needs)
     add-result
-    add-result-2
     returns)

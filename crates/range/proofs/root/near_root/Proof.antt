@@ -10,7 +10,7 @@ abbrev Inv-loop : tie.InvT-loop
 Inv-loop x r₀ k₀ r k = (1 ≤ r) × (r ≤ 4000000000000000002) × (x ≤ 4000000000000000000)
 
 abbrev μ-loop : tie.MeasureT-loop
-μ-loop x r₀ k₀ r k = 3 - k
+μ-loop x r₀ k₀ r k = 2 - k
 
 loop-holds : tie.Need-loop-holds Inv-loop μ-loop
 loop-holds c = (search needs, omega (arith, c .first-near .ensures .1), search needs)
@@ -33,6 +33,15 @@ loop-less c = search needs
 loop-again : tie.Need-loop-again Inv-loop μ-loop
 loop-again c = (search needs, omega (arith, div-le-self (c .before .before .before .args .x) (c .before .loop .r)), search needs)
 
+div-r-2 : tie.Need-div-r-2 Inv-loop μ-loop
+div-r-2 c = search needs
+
+add-r-3 : tie.Need-add-r-3 Inv-loop μ-loop
+add-r-3 c = let at = c .before .before in omega (arith, div-le-self (at .before .before .args .x) (at .loop .r))
+
+add-r-4 : tie.Need-add-r-4 Inv-loop μ-loop
+add-r-4 c = let at = c .before .before in omega (arith, div-le-self (at .before .before .args .x) (at .loop .r))
+
 returns : tie.Need-returns Inv-loop μ-loop
 returns c = search needs
 
@@ -53,5 +62,8 @@ near-root-spec =
     add-k
     loop-less
     loop-again
+    div-r-2
+    add-r-3
+    add-r-4
     returns
     returns-2)
