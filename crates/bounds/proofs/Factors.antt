@@ -17,7 +17,6 @@ use Rattle.range.specs.Sums.{has, at}
 use Rattle.rules.specs.Table.{factorRow, eight, lineOf}
 use Rattle.rules.specs.Run.{within}
 use Rattle.bounds.specs.declared.slopes.Slopes.{Slopes}
-use Rattle.bounds.specs.declared.table.Head.{Head}
 use Rattle.bounds.specs.Terms.{Fine}
 use Rattle.bounds.specs.Table.{Blank, putPair, Placed}
 use Rattle.bounds.proofs.Members.{at-any, at-eight, is-eight}
@@ -62,9 +61,8 @@ module _ (t : List ℤ) (a : ℕ) (few : a < 8) (long : length t ≡ 1280) (blan
         → length s ≡ 128 → Placed (lineOf (factorRow a r)) t s a x v
     unfolding factorRow lineOf
     factor-placed r s x v w sets =
-        let h : Head = record { value = r; spectrum = zeroRange; support = 1 * 2 ^ a % 256; nonlinear = 0 } in
         let g : Slopes = record { gradient = eight (onesAt a); valid = true } in
-        let p = placed u s a h g x v w (written .stored .slopes) (written .long) sets (omega (arith, few)) in
+        let p = placed u s a g x v w (written .stored .slopes) (written .long) sets (omega (arith, few)) in
         record {
           line = p .line ∙ (λ i. record {
             value = r;

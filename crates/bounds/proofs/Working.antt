@@ -16,7 +16,6 @@ use Rattle.rules.specs.Formula.{sticky}
 use Rattle.rules.specs.Table.{Row, lineOf}
 use Rattle.rules.specs.Run.{eachValid, within}
 use Rattle.bounds.specs.declared.slopes.Slopes.{Slopes}
-use Rattle.bounds.specs.declared.table.Head.{Head}
 use Rattle.bounds.specs.Terms.{Told, overMembers, slopesOf, Flat, Fine}
 use Rattle.bounds.specs.Table.{gradientAt, lineAt, putPair, Refers, Stored, lineWith, Placed, Settled, Worked}
 use Rattle.bounds.proofs.Members.{below-or, eight-same, eight-at, members-all, members-flat}
@@ -31,14 +30,14 @@ module _ {t : List ℤ} {s : List ℕ} {i k : ℕ} (r : Refers t s i k) where
   pub refers-valid : eachValid (gradientAt t i) ≡ true
   refers-valid = gradient-valid (lineAt t s i) (r .fine .valid)
 
--- its own slopes, which the row `addc` keeps
-pub own-slopes : (l : Line) → Fine l → length (l .gradient) ≡ 8 → {p : ℕ} {g : List Range} → p ≡ l .support → g ≡ l .gradient
-    → _≡_ {A = Slopes} (record { gradient = g; valid = true }) (slopesOf p (at (l .gradient)))
-own-slopes l f e {p} {g} q r =
+-- its own slopes, which the row `addc` keeps, are what the function of another row's slopes would give
+pub own-slopes : (l : Line) → Fine l → length (l .gradient) ≡ 8 → {p : ℕ} → p ≡ l .support → {g : Slopes}
+    → g ≡ record { gradient = l .gradient; valid = true } → g ≡ slopesOf p (at (l .gradient))
+own-slopes l f e {p} q r =
     let slope = at (l .gradient) in
     let all : l .gradient ≡ overMembers p slope =
     eight-at (l .gradient) e ∙ sym (members-all (l .support) slope (f .flat)) ∙ ap (λ (n : ℕ). overMembers n slope) (sym q) in
-    λ i. record { gradient = (r ∙ all) i; valid = (sym (gradient-valid l (f .valid)) ∙ ap eachValid all) i }
+    r ∙ (λ i. record { gradient = all i; valid = (sym (gradient-valid l (f .valid)) ∙ ap eachValid all) i })
 
 -- ---- other lines
 module _ (t u : List ℤ) (s v : List ℕ) (k : ℕ)
@@ -133,13 +132,12 @@ module _ (s : List ℕ) (k support nonlinear : ℕ) (v : List ℕ) (w : v ≡ se
         ∙ getD-set-same (set s (2 * k) support) (2 * k + 1) nonlinear 0 (omega (arith, length-set s (2 * k) support))
 
 -- ---- beside its slopes, which the table holds
-module _ (t : List ℤ) (s : List ℕ) (k : ℕ) (h : Head) (g : Slopes) (u : List ℤ) (v : List ℕ)
-    (w : (u ≡ putPair (putPair t (20 * k) (h .value)) (20 * k + 2) (h .spectrum))
-    × (v ≡ set (set s (2 * k) (h .support)) (2 * k + 1) (h .nonlinear)))
+module _ (t : List ℤ) (s : List ℕ) (k : ℕ) {value spectrum : Range} {support nonlinear : ℕ} (g : Slopes) (u : List ℤ) (v : List ℕ)
+    (w : (u ≡ putPair (putPair t (20 * k) value) (20 * k + 2) spectrum) × (v ≡ set (set s (2 * k) support) (2 * k + 1) nonlinear))
     (slopes : gradientAt t k ≡ g .gradient)
     (long : length t ≡ 1280) (sets : length s ≡ 128) (inside : k < 64)
   where
-    pub placed : Placed (lineWith h g) t s k u v
+    pub placed : Placed (lineWith value spectrum support nonlinear g) t s k u v
     placed = record {
       line = λ i. record {
         value = head-value t k _ _ u (w .0) long inside i;
@@ -166,12 +164,12 @@ module _ {g : List Range} {t : List ℤ} {k : ℕ} {u : List ℤ} (z : Stored g 
       slope (inr l) = inr l
 
 -- ---- the line of a row
--- The head is a row's.
-pub record HeadOf (row : Row) (h : Head) : Type 0 where
-  pub value : h .value ≡ sticky (row .value)
-  pub spectrum : h .spectrum ≡ sticky (row .spectrum)
-  pub support : h .support ≡ row .support
-  pub nonlinear : h .nonlinear ≡ row .nonlinear
+-- The value v, the spectrum e, the support p and the nonlinear set b are a row's.
+pub record HeadOf (row : Row) (v e : Range) (p b : ℕ) : Type 0 where
+  pub value : v ≡ sticky (row .value)
+  pub spectrum : e ≡ sticky (row .spectrum)
+  pub support : p ≡ row .support
+  pub nonlinear : b ≡ row .nonlinear
 
 -- What `settle` asks: g is what the function of the row's slopes gave, and wrote from the table t to the table x, and an operation gave the
 -- value and the spectrum.
@@ -181,7 +179,7 @@ pub settle-asks : (k : ℕ) (g : Slopes) (l : List Range) (t x : List ℤ) (valu
 settle-asks k g l t x value spectrum h (e, w) v s =
     (h, (ap (λ (y : Slopes). y .valid) e ∙ sym (ap (λ (y : Slopes). eachValid (y .gradient)) e), (v, (s, w .slopes))))
 
-module _ (row : Row) (h : Head) (m : HeadOf row h) (f : ℕ → Range)
+module _ (row : Row) {v e : Range} {p b : ℕ} (m : HeadOf row v e p b) (f : ℕ → Range)
     (same : (a : ℕ) → f a ≡ sticky (row .slope a))
     (outside : (a : ℕ) → has (row .support) a ≡ false → sticky (row .slope a) ≡ zeroRange)
   where
@@ -194,24 +192,24 @@ module _ (row : Row) (h : Head) (m : HeadOf row h) (f : ℕ → Range)
     flat a e = ap (λ (g : List Range). at g a) (sym all-slopes) ∙ members-flat (row .support) f a e
 
     -- g: what the function of the row's slopes gave
-    line-is : (g : Slopes) → g ≡ slopesOf (h .support) f → lineWith h g ≡ lineOf row
+    line-is : (g : Slopes) → g ≡ slopesOf p f → lineWith v e p b g ≡ lineOf row
     unfolding lineOf
-    line-is g e =
-        let slopes = ap (λ (y : Slopes). y .gradient) e ∙ ap (λ (p : ℕ). overMembers p f) (m .support) ∙ all-slopes in
+    line-is g y =
+        let slopes = ap (λ (z : Slopes). z .gradient) y ∙ ap (λ (n : ℕ). overMembers n f) (m .support) ∙ all-slopes in
         λ i. record { value = m .value i; gradient = slopes i; support = m .support i; nonlinear = m .nonlinear i; spectrum = m .spectrum i }
 
     -- from the table t to the table x its slopes are written, and from there to the table u its head
-    pub worked : (g : Slopes) (t : List ℤ) (s : List ℕ) (k : ℕ) (x : List ℤ) (r : Slopes) (u : List ℤ) (v : List ℕ)
-        → (g ≡ slopesOf (h .support) f) × Stored (g .gradient) t k x → Settled (lineWith h g) x s k r u v → Worked row t s k r u v
-    worked g t s k x r u v (e, w) z =
-        let is = line-is g e in
+    pub worked : (g : Slopes) (t : List ℤ) (s : List ℕ) (k : ℕ) (x : List ℤ) (r : Slopes) (u : List ℤ) (w : List ℕ)
+        → (g ≡ slopesOf p f) × Stored (g .gradient) t k x → Settled (lineWith v e p b g) x s k r u w → Worked row t s k r u w
+    worked g t s k x r u w (q, stored) z =
+        let is = line-is g q in
         let tells : r .valid ≡ within (lineOf row) = z .tells ∙ ap within is in
         record {
           tells = tells;
           slopes = λ y. z .slopes y ∙ ap (λ (l : Line). l .gradient) is;
           line = λ y. z .line y ∙ is;
           fine = λ y. record { valid = sym tells ∙ y; flat = flat };
-          others = stored-others w s u v (z .others);
+          others = stored-others stored s u w (z .others);
         }
 
 -- a row whose slopes are `over` needs no line

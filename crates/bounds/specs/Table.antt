@@ -14,7 +14,6 @@ use Rattle.rules.specs.declared.Line.{Line}
 use Rattle.rules.specs.Table.{Row, eight, lineOf}
 use Rattle.rules.specs.Run.{within}
 use Rattle.bounds.specs.declared.slopes.Slopes.{Slopes}
-use Rattle.bounds.specs.declared.table.Head.{Head}
 use Rattle.bounds.specs.Terms.{Fine}
 
 abbrev pub valueAt : List ℤ → ℕ → Range
@@ -80,15 +79,9 @@ pub record Placed (l : Line) (t : List ℤ) (s : List ℕ) (k : ℕ) (u : List �
   pub line : lineAt u v k ≡ l
   pub others : (q : ℕ) → ¬ (q ≡ k) → lineAt u v q ≡ lineAt t s q
 
--- The line that has this beside its slopes, and these slopes.
-abbrev pub lineWith : Head → Slopes → Line
-lineWith h g = record {
-  value = h .value;
-  gradient = g .gradient;
-  support = h .support;
-  nonlinear = h .nonlinear;
-  spectrum = h .spectrum;
-}
+-- The line with this value, spectrum, support and nonlinear set, and these slopes.
+abbrev pub lineWith : Range → Range → ℕ → ℕ → Slopes → Line
+lineWith v e p b g = record { value = v; gradient = g .gradient; support = p; nonlinear = b; spectrum = e }
 
 -- From the table t, s to the table u, v the line k becomes l, if all its ranges are valid, which r tells beside its slopes. No other line has
 -- changed.

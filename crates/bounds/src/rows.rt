@@ -15,28 +15,34 @@ use super::slopes;
 use super::slopes::Slopes;
 use super::spectrum;
 use super::table;
-use super::table::Head;
 use super::valid;
 use range::Range;
 
 // Writes what the line k has beside its slopes, which the table holds, if all its ranges are valid. What is given back is its slopes, and
 // whether they are.
-fn settle(t: &mut [i32; 1280], s: &mut [u8; 128], k: usize, h: Head, g: Slopes) -> Slopes
+fn settle(
+    t: &mut [i32; 1280],
+    s: &mut [u8; 128],
+    k: usize,
+    v: Range,
+    e: Range,
+    p: u8,
+    b: u8,
+    g: Slopes,
+) -> Slopes
     requires { ⌜ k < 64 ⌝ }
     requires { ⌜ g .valid ≡ eachValid (g .gradient) ⌝ }
-    requires { ⌜ Told (h .value) ⌝ }
-    requires { ⌜ Told (h .spectrum) ⌝ }
+    requires { ⌜ Told v ⌝ }
+    requires { ⌜ Told e ⌝ }
     requires { ⌜ gradientAt (now t) k ≡ g .gradient ⌝ }
-    ensures { λ r. ⌜ Settled (lineWith h g) (now (t .entry)) (now (s .entry)) k r (now (t .exit)) (now (s .exit)) ⌝ }
+    ensures { λ r. ⌜ Settled (lineWith v e p b g) (now (t .entry)) (now (s .entry)) k r (now (t .exit)) (now (s .exit)) ⌝ }
 {
-    let v = h.value;
-    let e = h.spectrum;
     if !(valid::is_range(v) & (g.valid & valid::is_range(e))) {
         return slopes::none();
     }
     table::sized(t);
     table::sized_sets(s);
-    table::put_head(t, s, k, h);
+    table::put_head(t, s, k, v, e, p, b);
     g
 }
 
@@ -52,17 +58,7 @@ pub(crate) fn factor(t: &mut [i32; 1280], s: &mut [u8; 128], a: usize, r: Range)
     table::sized(t);
     table::sized_sets(s);
     table::put_slope(t, a, a, one);
-    table::put_head(
-        t,
-        s,
-        a,
-        Head {
-            value: r,
-            spectrum: zero,
-            support: 1u8 << a,
-            nonlinear: 0,
-        },
-    );
+    table::put_head(t, s, a, r, zero, 1u8 << a, 0);
 }
 
 // 01's row `add`.
@@ -81,18 +77,7 @@ pub(crate) fn add(t: &mut [i32; 1280], s: &mut [u8; 128], i: usize, j: usize, k:
     let v = valid::sum(table::value(t, i), table::value(t, j));
     let e = spectrum::of_sum(table::spectrum(t, i), b, table::spectrum(t, j), c);
     let g = slopes::of_sum(t, k, p, i, j);
-    settle(
-        t,
-        s,
-        k,
-        Head {
-            value: v,
-            spectrum: e,
-            support: p,
-            nonlinear: b | c,
-        },
-        g,
-    )
+    settle(t, s, k, v, e, p, b | c, g)
 }
 
 // 01's row `addc`.
@@ -108,23 +93,8 @@ pub(crate) fn addc(t: &mut [i32; 1280], s: &mut [u8; 128], i: usize, c: i64, k: 
     let b = table::nonlinear(s, i);
     let v = valid::sum(table::value(t, i), Range::new(c, c));
     let e = table::spectrum(t, i);
-    let g = table::gradient(t, i);
-    slopes::put(t, k, g);
-    settle(
-        t,
-        s,
-        k,
-        Head {
-            value: v,
-            spectrum: e,
-            support: p,
-            nonlinear: b,
-        },
-        Slopes {
-            gradient: g,
-            valid: true,
-        },
-    )
+    let g = slopes::copied(t, k, i);
+    settle(t, s, k, v, e, p, b, g)
 }
 
 // 01's row `mulc`.
@@ -143,18 +113,7 @@ pub(crate) fn mulc(t: &mut [i32; 1280], s: &mut [u8; 128], i: usize, c: i64, k: 
     let v = valid::product(q, table::value(t, i));
     let e = valid::product(q, table::spectrum(t, i));
     let g = slopes::scaled(t, k, p, i, q);
-    settle(
-        t,
-        s,
-        k,
-        Head {
-            value: v,
-            spectrum: e,
-            support: p,
-            nonlinear: b,
-        },
-        g,
-    )
+    settle(t, s, k, v, e, p, b, g)
 }
 
 // The E of 01's row `mul`.
@@ -194,18 +153,7 @@ pub(crate) fn mul(t: &mut [i32; 1280], s: &mut [u8; 128], i: usize, j: usize, k:
     let u = valid::product(v, w);
     let e = product_spectrum(t, s, i, j);
     let g = slopes::of_product(t, k, p, i, j, v, w);
-    settle(
-        t,
-        s,
-        k,
-        Head {
-            value: u,
-            spectrum: e,
-            support: p,
-            nonlinear: p,
-        },
-        g,
-    )
+    settle(t, s, k, u, e, p, p, g)
 }
 
 // The E of 01's row `pow`.
@@ -241,18 +189,7 @@ pub(crate) fn pow(t: &mut [i32; 1280], s: &mut [u8; 128], i: usize, m: u8, k: us
     let v = x.power(m);
     let e = power_spectrum(t, s, i, m);
     let g = slopes::raised(t, k, p, i, q, m);
-    settle(
-        t,
-        s,
-        k,
-        Head {
-            value: v,
-            spectrum: e,
-            support: p,
-            nonlinear: p,
-        },
-        g,
-    )
+    settle(t, s, k, v, e, p, p, g)
 }
 
 // The E of 01's row `inv`; v is the line's own value.
@@ -285,16 +222,5 @@ pub(crate) fn inv(t: &mut [i32; 1280], s: &mut [u8; 128], i: usize, k: usize) ->
     }
     let e = inverse_spectrum(t, s, i, v);
     let g = slopes::scaled(t, k, p, i, q.negated());
-    settle(
-        t,
-        s,
-        k,
-        Head {
-            value: v,
-            spectrum: e,
-            support: p,
-            nonlinear: p,
-        },
-        g,
-    )
+    settle(t, s, k, v, e, p, p, g)
 }

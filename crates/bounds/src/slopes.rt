@@ -171,8 +171,24 @@ pub(crate) fn raised(t: &mut [i32; 1280], k: usize, set: u8, i: usize, q: Range,
     }
 }
 
+// The row `addc`: the slopes of the line k are those of the line i.
+pub(crate) fn copied(t: &mut [i32; 1280], k: usize, i: usize) -> Slopes
+    requires { ⌜ k < 64 ⌝ }
+    requires { ⌜ i < 64 ⌝ }
+    requires { ⌜ eachValid (gradientAt (now t) i) ≡ true ⌝ }
+    ensures { λ r. ⌜ r ≡ record { gradient = gradientAt (now (t .entry)) i; valid = true } ⌝ }
+    ensures { λ r. ⌜ Stored (r .gradient) (now (t .entry)) k (now (t .exit)) ⌝ }
+{
+    let g = table::gradient(t, i);
+    put(t, k, g);
+    Slopes {
+        gradient: g,
+        valid: true,
+    }
+}
+
 // Writes the slopes of the line k.
-pub(crate) fn put(t: &mut [i32; 1280], k: usize, g: [Range; 8])
+fn put(t: &mut [i32; 1280], k: usize, g: [Range; 8])
     requires { ⌜ k < 64 ⌝ }
     requires { ⌜ eachValid g ≡ true ⌝ }
     ensures { λ _. ⌜ Stored g (now (t .entry)) k (now (t .exit)) ⌝ }

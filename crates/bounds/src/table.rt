@@ -114,26 +114,24 @@ pub(crate) fn put_slope(t: &mut [i32; 1280], k: usize, a: usize, r: Range)
     put(t, 20 * k + 4 + 2 * a, r);
 }
 
-// What a line has beside its slopes.
-pub struct Head {
-    pub value: Range,
-    pub spectrum: Range,
-    pub support: u8,
-    pub nonlinear: u8,
-}
-
-// Writes what the line k has beside its slopes.
-pub(crate) fn put_head(t: &mut [i32; 1280], s: &mut [u8; 128], k: usize, h: Head)
+// Writes what the line k has beside its slopes: its value v, its spectrum e, its support p, and the set b that it is nonlinear in.
+pub(crate) fn put_head(
+    t: &mut [i32; 1280],
+    s: &mut [u8; 128],
+    k: usize,
+    v: Range,
+    e: Range,
+    p: u8,
+    b: u8,
+)
     requires { ⌜ k < 64 ⌝ }
-    requires { ⌜ isValid (h .value) ≡ true ⌝ }
-    requires { ⌜ isValid (h .spectrum) ≡ true ⌝ }
-    ensures { λ _. ⌜ now (t .exit) ≡ putPair (putPair (now (t .entry)) (20 * k) (h .value)) (20 * k + 2) (h .spectrum) ⌝ }
-    ensures { λ _. ⌜ now (s .exit) ≡ set (set (now (s .entry)) (2 * k) (h .support)) (2 * k + 1) (h .nonlinear) ⌝ }
+    requires { ⌜ isValid v ≡ true ⌝ }
+    requires { ⌜ isValid e ≡ true ⌝ }
+    ensures { λ _. ⌜ now (t .exit) ≡ putPair (putPair (now (t .entry)) (20 * k) v) (20 * k + 2) e ⌝ }
+    ensures { λ _. ⌜ now (s .exit) ≡ set (set (now (s .entry)) (2 * k) p) (2 * k + 1) b ⌝ }
 {
-    let v = h.value;
-    let e = h.spectrum;
     put(t, 20 * k, v);
     put(t, 20 * k + 2, e);
-    s[2 * k] = h.support;
-    s[2 * k + 1] = h.nonlinear;
+    s[2 * k] = p;
+    s[2 * k + 1] = b;
 }

@@ -66,7 +66,7 @@ returns c =
     let sum = spectra .before .before .before .before .before in
     let sets = sum .before .before .before .before .before in
     let lines = start sets .pre .1 .1 in
-    worked _ _
+    worked _
     (record {
       value = sum .sum .ensures ∙ ap₂ sumOf (sum .before .before .before .value .ensures) (sum .before .value2 .ensures);
       spectrum = spectra .of-sum .ensures ∙ (λ l. sumSpectrumOf (spectra .before .before .before .spectrum .ensures l) (sets .before .before .nonlinear .ensures l) (spectra .before .spectrum2 .ensures l) (sets .nonlinear2 .ensures l));

@@ -84,7 +84,7 @@ returns-2 c =
     let s = start (power .before) in
     let v = square-valid test in
     let g = at (gradientAt (now (s .args .t)) (s .args .i)) in
-    worked _ _
+    worked _
     (record { value = inverse-is (power .before); spectrum = spectra .inverse-spectrum .ensures; support = support; nonlinear = support })
     _
     (λ a.

@@ -73,7 +73,7 @@ returns c =
     let s = start values in
     let lines = s .pre .1 .1 in
     let union = ap₂ bitOr (sets .before .before .support .ensures) (sets .support2 .ensures) in
-    worked _ _
+    worked _
     (record {
       value = product .product .ensures ∙ ap₂ productOf (values .before .before .value .ensures) (values .value2 .ensures);
       spectrum = spectra .product-spectrum .ensures;

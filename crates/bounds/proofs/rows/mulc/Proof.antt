@@ -64,7 +64,7 @@ returns c =
     let new = values .before .before .before in
     let sets = new .before in
     let s = start new in
-    worked _ _
+    worked _
     (record {
       value = values .product .ensures ∙ ap₂ productOf (point new) (values .before .value .ensures);
       spectrum = spectra .product2 .ensures ∙ ap₂ productOf (point new) (spectra .before .spectrum .ensures);

@@ -75,7 +75,7 @@ returns-2 c =
     let support = value .before .before .support .ensures in
     let s = start power in
     let m = s .args .m in
-    worked _ _
+    worked _
     (record {
       value = values .power2 .ensures ∙ ap (λ (v : Range). powOf v m) (value .value .ensures);
       spectrum = spectra .power-spectrum .ensures;

@@ -12,8 +12,8 @@ use Rattle.bounds.proofs.table.put_head.Tie as tie
 returns : tie.Need-returns
 returns c =
     let first = c .before .before in
-    let start = first .before .before .before .before in
-    (c .put2 .ensures ∙ ap (λ (u : List ℤ). putPair u (20 * start .args .k + 2) (start .args .h .spectrum)) (first .put .ensures), search needs)
+    let args = first .before .before .args in
+    (c .put2 .ensures ∙ ap (λ (u : List ℤ). putPair u (20 * args .k + 2) (args .e)) (first .put .ensures), search needs)
 
 pub put-head-spec : {M : Type 1} → statement M
 put-head-spec =
