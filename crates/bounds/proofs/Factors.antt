@@ -20,7 +20,7 @@ use Rattle.bounds.specs.declared.slopes.Slopes.{Slopes}
 use Rattle.bounds.specs.Terms.{Fine}
 use Rattle.bounds.specs.Table.{Blank, putPair, Placed}
 use Rattle.bounds.proofs.Members.{at-any, at-eight, is-eight}
-use Rattle.bounds.proofs.Settled.{zero-valid}
+use Rattle.bounds.proofs.Validity.{zero-valid}
 use Rattle.bounds.proofs.Storing.{Storing, storing-start, storing-more}
 use Rattle.bounds.proofs.Working.{placed, stored-others}
 

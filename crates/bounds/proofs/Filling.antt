@@ -18,7 +18,7 @@ use Rattle.range.proofs.Scanning.{Scan, scan-start, scan-index, scan-next, scan
 use Rattle.rules.specs.Run.{eachValid}
 use Rattle.bounds.specs.Terms.{memberOr, overMembers, slopesOf}
 use Rattle.bounds.proofs.Members.{at-eight, is-eight}
-use Rattle.bounds.proofs.Settled.{zero-valid, each-more}
+use Rattle.bounds.proofs.Validity.{zero-valid, each-more}
 
 -- The slopes of the factors below a are worked out, and the others are zero still.
 pub record Filling (s : ℕ) (f : ℕ → Range) (g : List Range) (ok : Bool) (rest a : ℕ) : Type 0 where

@@ -3,7 +3,7 @@ pub mod Pairs
 pub mod Operands
 pub mod Narrow
 pub mod Members
-pub mod Settled
+pub mod Validity
 pub mod Filling
 pub mod Storing
 pub mod Zeros

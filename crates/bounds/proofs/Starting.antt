@@ -17,7 +17,7 @@ use Rattle.rules.specs.Table.{factorRow, lineOf}
 use Rattle.rules.specs.Run.{noLine, eachValid, factorLines}
 use Rattle.bounds.specs.Table.{linesUpTo, Ready, Started, Placed}
 use Rattle.bounds.proofs.Factors.{factor-fine}
-use Rattle.bounds.proofs.Settled.{each-at}
+use Rattle.bounds.proofs.Validity.{each-at}
 use Rattle.bounds.proofs.Running.{ready-more, lines-more}
 
 -- ---- the lines of all factors

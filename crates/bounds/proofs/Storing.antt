@@ -15,7 +15,7 @@ use Rattle.range.specs.Sums.{at}
 use Rattle.rules.specs.Run.{eachValid}
 use Rattle.bounds.specs.Table.{gradientAt, putPair, Stored}
 use Rattle.bounds.proofs.Pairs.{put-long, put-other, same-ranges, slope-set}
-use Rattle.bounds.proofs.Settled.{read-valid}
+use Rattle.bounds.proofs.Validity.{read-valid}
 
 -- The table was t and is u; its line k has the slopes g, and nothing else has changed.
 pub record Storing (g : List Range) (t : List ℤ) (k : ℕ) (u : List ℤ) : Type 0 where

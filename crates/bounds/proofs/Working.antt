@@ -17,10 +17,10 @@ use Rattle.rules.specs.Table.{Row, lineOf}
 use Rattle.rules.specs.Run.{eachValid, within}
 use Rattle.bounds.specs.declared.slopes.Slopes.{Slopes}
 use Rattle.bounds.specs.Terms.{Told, overMembers, slopesOf, Flat, Fine}
-use Rattle.bounds.specs.Table.{gradientAt, lineAt, putPair, Refers, Stored, lineWith, Placed, Settled, Worked}
+use Rattle.bounds.specs.Table.{gradientAt, lineAt, putPair, Refers, Stored, lineWith, Placed, SettledLine, Worked}
 use Rattle.bounds.proofs.Members.{below-or, eight-same, eight-at, members-all, members-flat}
 use Rattle.bounds.proofs.Pairs.{put-long, put-read, put-other, same-pair, same-ranges}
-use Rattle.bounds.proofs.Settled.{gradient-valid, slope-over}
+use Rattle.bounds.proofs.Validity.{gradient-valid, slope-over}
 
 -- ---- the line that a row refers to
 module _ {t : List ℤ} {s : List ℕ} {i k : ℕ} (r : Refers t s i k) where
@@ -200,7 +200,7 @@ module _ (row : Row) {v e : Range} {p b : ℕ} (m : HeadOf row v e p b) (f : ℕ
 
     -- from the table t to the table x its slopes are written, and from there to the table u its head
     pub worked : (g : Slopes) (t : List ℤ) (s : List ℕ) (k : ℕ) (x : List ℤ) (r : Slopes) (u : List ℤ) (w : List ℕ)
-        → (g ≡ slopesOf p f) × Stored (g .gradient) t k x → Settled (lineWith v e p b g) x s k r u w → Worked row t s k r u w
+        → (g ≡ slopesOf p f) × Stored (g .gradient) t k x → SettledLine (lineWith v e p b g) x s k r u w → Worked row t s k r u w
     worked g t s k x r u w (q, stored) z =
         let is = line-is g q in
         let tells : r .valid ≡ within (lineOf row) = z .tells ∙ ap within is in

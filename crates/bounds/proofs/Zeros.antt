@@ -10,7 +10,7 @@ use Rattle.range.specs.Arithmetic.{sumOf, negOf, endsTimes, timesOf, endsProduc
 use Rattle.range.proofs.Valid.{T-true, true-T, valid-of, sticky₁-is, sticky₂-is}
 use Rattle.exact.specs.Int.{ints}
 use Rattle.exact.specs.Div.{floorDiv, ceilDiv}
-use Rattle.bounds.proofs.Settled.{zero-valid}
+use Rattle.bounds.proofs.Validity.{zero-valid}
 
 -- ---- of zeros
 pub zero-sum : sumOf zeroRange zeroRange ≡ zeroRange

@@ -85,7 +85,7 @@ lineWith v e p b g = record { value = v; gradient = g .gradient; support = p; no
 
 -- From the table t, s to the table u, v the line k becomes l, if all its ranges are valid, which r tells beside its slopes. No other line has
 -- changed.
-pub record Settled (l : Line) (t : List ℤ) (s : List ℕ) (k : ℕ) (r : Slopes) (u : List ℤ) (v : List ℕ) : Type 0 where
+pub record SettledLine (l : Line) (t : List ℤ) (s : List ℕ) (k : ℕ) (r : Slopes) (u : List ℤ) (v : List ℕ) : Type 0 where
   pub tells : r .valid ≡ within l
   pub slopes : r .valid ≡ true → r .gradient ≡ l .gradient
   pub line : r .valid ≡ true → lineAt u v k ≡ l

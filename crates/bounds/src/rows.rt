@@ -10,7 +10,7 @@ ghost use Rattle.rules.specs.Formula.{sticky};
 ghost use Rattle.rules.specs.Run.{eachValid};
 ghost use Rattle.rules.specs.Table.{factorRow, addRow, addcRow, mulcRow, mulRow, powRow, invRow, lineOf};
 ghost use Rattle.bounds.specs.Terms.{Told, Fine};
-ghost use Rattle.bounds.specs.Table.{valueAt, gradientAt, lineAt, Blank, Refers, lineWith, Placed, Settled, Worked};
+ghost use Rattle.bounds.specs.Table.{valueAt, gradientAt, lineAt, Blank, Refers, lineWith, Placed, SettledLine, Worked};
 use super::slopes;
 use super::slopes::Slopes;
 use super::spectrum;
@@ -35,7 +35,7 @@ fn settle(
     requires { ⌜ Told v ⌝ }
     requires { ⌜ Told e ⌝ }
     requires { ⌜ gradientAt (now t) k ≡ g .gradient ⌝ }
-    ensures { λ r. ⌜ Settled (lineWith v e p b g) (now (t .entry)) (now (s .entry)) k r (now (t .exit)) (now (s .exit)) ⌝ }
+    ensures { λ r. ⌜ SettledLine (lineWith v e p b g) (now (t .entry)) (now (s .entry)) k r (now (t .exit)) (now (s .exit)) ⌝ }
 {
     if !(valid::is_range(v) & (g.valid & valid::is_range(e))) {
         return slopes::none();

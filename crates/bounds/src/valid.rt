@@ -52,7 +52,7 @@ fn spread(a: Range, b: Range) -> Range
     by(a.low, b).ends_hull(by(a.high, b))
 }
 
-// Most slopes that are multiplied are zero: b is tested for it.
+// b is tested for zero, as many slopes are.
 pub(crate) fn product(a: Range, b: Range) -> Range
     requires { ⌜ isValid a ≡ true ⌝ }
     requires { ⌜ isValid b ≡ true ⌝ }

@@ -8,7 +8,7 @@ use Rattle.rules.specs.Table.{addRow}
 use Rattle.bounds.specs.Terms.{Told, sumSpectrumOf}
 use Rattle.bounds.proofs.Members.{outside-union}
 use Rattle.bounds.proofs.Operands.{told-valid, told-sum, told-sum-spectrum}
-use Rattle.bounds.proofs.Settled.{value-valid, spectrum-valid}
+use Rattle.bounds.proofs.Validity.{value-valid, spectrum-valid}
 use Rattle.bounds.proofs.Working.{refers-inside, refers-valid, settle-asks, worked}
 use Rattle.bounds.proofs.Zeros.{zero-sum}
 use Rattle.bounds.proofs.rows.add.Statement.{statement}

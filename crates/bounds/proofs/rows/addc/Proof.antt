@@ -6,7 +6,7 @@ use Rattle.range.specs.Arithmetic.{sumOf}
 use Rattle.rules.specs.Table.{addcRow}
 use Rattle.bounds.specs.Terms.{Told}
 use Rattle.bounds.proofs.Operands.{told-valid, told-sum}
-use Rattle.bounds.proofs.Settled.{value-valid, spectrum-valid}
+use Rattle.bounds.proofs.Validity.{value-valid, spectrum-valid}
 use Rattle.bounds.proofs.Working.{refers-inside, refers-valid, own-slopes, settle-asks, worked}
 use Rattle.bounds.proofs.Zeros.{point-valid}
 use Rattle.bounds.proofs.rows.addc.Statement.{statement}

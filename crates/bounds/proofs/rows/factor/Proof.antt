@@ -3,7 +3,7 @@ use borrow.Author.Needs.{needs}
 use mathlib.Core.Logic.{inl}
 use native.Mathlib.Omega.{arith}
 use Rattle.bounds.proofs.Factors.{one-valid, factor-placed}
-use Rattle.bounds.proofs.Settled.{zero-valid}
+use Rattle.bounds.proofs.Validity.{zero-valid}
 use Rattle.bounds.proofs.rows.factor.Statement.{statement}
 use Rattle.bounds.proofs.rows.factor.Tie as tie
 

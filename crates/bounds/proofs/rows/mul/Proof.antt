@@ -12,7 +12,7 @@ use Rattle.bounds.specs.Table.{gradientAt}
 use Rattle.bounds.proofs.Heads.{told-mul}
 use Rattle.bounds.proofs.Members.{outside-union}
 use Rattle.bounds.proofs.Operands.{told-product}
-use Rattle.bounds.proofs.Settled.{value-valid}
+use Rattle.bounds.proofs.Validity.{value-valid}
 use Rattle.bounds.proofs.Working.{refers-inside, refers-valid, settle-asks, worked}
 use Rattle.bounds.proofs.Zeros.{zero-sum, zero-product}
 use Rattle.bounds.proofs.rows.mul.Statement.{statement}

@@ -10,7 +10,7 @@ use Rattle.rules.specs.Table.{mulcRow}
 use Rattle.bounds.specs.Terms.{Told}
 use Rattle.bounds.specs.Table.{gradientAt}
 use Rattle.bounds.proofs.Operands.{told-product}
-use Rattle.bounds.proofs.Settled.{value-valid, spectrum-valid}
+use Rattle.bounds.proofs.Validity.{value-valid, spectrum-valid}
 use Rattle.bounds.proofs.Working.{refers-valid, settle-asks, worked}
 use Rattle.bounds.proofs.Zeros.{zero-product, point-valid}
 use Rattle.bounds.proofs.rows.mulc.Statement.{statement}

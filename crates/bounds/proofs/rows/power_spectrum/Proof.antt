@@ -4,7 +4,7 @@ use mathlib.Core.Path.{ap, _∙_}
 use Rattle.range.specs.Limit.{isValid}
 use Rattle.rules.specs.Table.{powRow}
 use Rattle.bounds.proofs.Operands.{told-valid}
-use Rattle.bounds.proofs.Settled.{spectrum-valid}
+use Rattle.bounds.proofs.Validity.{spectrum-valid}
 use Rattle.bounds.proofs.rows.power_spectrum.Statement.{statement}
 use Rattle.bounds.proofs.rows.power_spectrum.Tie as tie
 

@@ -7,7 +7,7 @@ use Rattle.rules.specs.Table.{mulRow}
 use Rattle.bounds.specs.Terms.{Told}
 use Rattle.bounds.specs.Table.{gradientAt}
 use Rattle.bounds.proofs.Operands.{told-product, told-extended, told-sum-spectrum, told-cross-spectrum}
-use Rattle.bounds.proofs.Settled.{value-valid, spectrum-valid}
+use Rattle.bounds.proofs.Validity.{value-valid, spectrum-valid}
 use Rattle.bounds.proofs.rows.product_spectrum.Statement.{statement}
 use Rattle.bounds.proofs.rows.product_spectrum.Tie as tie
 

@@ -6,7 +6,7 @@ use borrow.Author.Tests.{not-true, not-false}
 use Rattle.rules.specs.declared.Line.{Line}
 use Rattle.rules.specs.Run.{within}
 use Rattle.bounds.specs.Table.{lineWith}
-use Rattle.bounds.proofs.Settled.{value-valid, gradient-valid, spectrum-valid}
+use Rattle.bounds.proofs.Validity.{value-valid, gradient-valid, spectrum-valid}
 use Rattle.bounds.proofs.Working.{placed}
 use Rattle.bounds.proofs.rows.settle.Statement.{statement}
 use Rattle.bounds.proofs.rows.settle.Tie as tie

@@ -10,7 +10,7 @@ use Rattle.rules.specs.Rate.{limitsOf, rated}
 use Rattle.bounds.specs.Terms.{extendedOf}
 use Rattle.bounds.proofs.Factors.{shifted}
 use Rattle.bounds.proofs.Operands.{told-valid}
-use Rattle.bounds.proofs.Settled.{spectrum-valid}
+use Rattle.bounds.proofs.Validity.{spectrum-valid}
 use Rattle.bounds.proofs.run.result.Statement.{statement}
 use Rattle.bounds.proofs.run.result.Tie as tie
 

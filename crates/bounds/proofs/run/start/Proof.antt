@@ -6,7 +6,7 @@ use native.Mathlib.Omega.{arith}
 use lib.ListN.{length}
 use Rattle.range.specs.Limit.{isValid}
 use Rattle.rules.specs.Rate.{pairs}
-use Rattle.bounds.proofs.Settled.{each-at}
+use Rattle.bounds.proofs.Validity.{each-at}
 use Rattle.bounds.proofs.Starting.{Begun, begun-none, begun-more, begun-all}
 use Rattle.bounds.proofs.run.start.Statement.{statement}
 use Rattle.bounds.proofs.run.start.Tie as tie

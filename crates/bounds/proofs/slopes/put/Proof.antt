@@ -2,7 +2,7 @@
 use borrow.Author.Needs.{needs}
 use mathlib.Core.Logic.{inl}
 use Prim.Native.Nat.{_-_}
-use Rattle.bounds.proofs.Settled.{each-at}
+use Rattle.bounds.proofs.Validity.{each-at}
 use Rattle.bounds.proofs.Storing.{Putting, putting-start, putting-next, putting-end}
 use Rattle.bounds.proofs.slopes.put.Statement.{statement}
 use Rattle.bounds.proofs.slopes.put.Tie as tie

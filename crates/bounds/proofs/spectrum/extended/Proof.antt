@@ -2,7 +2,7 @@
 use borrow.Author.Needs.{needs}
 use borrow.Author.Tests.{eq-eqb, ne-eqb}
 use Rattle.range.proofs.Fitting.{branching}
-use Rattle.bounds.proofs.Settled.{zero-valid}
+use Rattle.bounds.proofs.Validity.{zero-valid}
 use Rattle.bounds.proofs.spectrum.extended.Statement.{statement}
 use Rattle.bounds.proofs.spectrum.extended.Tie as tie
 
