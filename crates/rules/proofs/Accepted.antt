@@ -27,10 +27,11 @@ use Rattle.rules.specs.Rate.{last, limitsOf, rated, refused, pairs, fini
 use Rattle.rules.specs.Exact.{Point, Jet, factorJet, exactLines, premiumOf}
 use Rattle.rules.proofs.Along.{at-turn, Along, along-last, along-run, along-factors, Kept}
 
--- the codelist is ratable, there is a range per factor, and the limits are those of the last line of a run that went through
+-- the codelist is ratable, there is a good range per factor, and the limits are those of the last line of a run that went through
 pub record Accepted (c : Codelist) (xs : List ℤ) (l : Limits) : Type 0 where
   pub codelist : Ratable c
   pub count : length (pairs xs) ≡ c .factors
+  pub good : firstBad 1 (pairs xs) ≡ 0
   pub lines : List Line
   pub ran : linesOf c (pairs xs) ≡ through lines
   pub limits : l ≡ limitsOf (c .factors) (last lines)
@@ -50,9 +51,9 @@ passed r true e = (refl, e)
 passed r false e = absurd (not-rated e)
 
 ranged : (c : Codelist) (rs : List Range) (z : ℕ) {l : Limits} → rateRanges c rs z ≡ rated l
-    → finished (c .factors) (linesOf c rs) ≡ rated l
+    → (z ≡ 0) × (finished (c .factors) (linesOf c rs) ≡ rated l)
 unfolding rateRanges
-ranged c rs zero e = e
+ranged c rs zero e = (refl, e)
 ranged c rs (suc a) e = absurd (not-rated e)
 
 through-to : (n : ℕ) (u : Lines) {l : Limits} → finished n u ≡ rated l → (ms : List Line) × ((u ≡ through ms) × (l ≡ limitsOf n (last ms)))
@@ -64,10 +65,12 @@ unfolding rateOf
 accepted c xs l e =
     let w = passed NoCodelist (ratable c) e in
     let n = passed RangeCount (eqb (length xs) (2 * c .factors)) (w .1) in
-    let t = through-to (c .factors) (linesOf c (pairs xs)) (ranged c (pairs xs) (firstBad 1 (pairs xs)) (n .1)) in
+    let g = ranged c (pairs xs) (firstBad 1 (pairs xs)) (n .1) in
+    let t = through-to (c .factors) (linesOf c (pairs xs)) (g .1) in
     record {
       codelist = decides c .0 (w .0);
       count = pairs-length xs (c .factors) (eqb-true (length xs) (2 * c .factors) (n .0));
+      good = g .0;
       lines = t .0;
       ran = t .1 .0;
       limits = t .1 .1;

@@ -1,4 +1,5 @@
--- Laws of the rules, and the proofs of what they promise: `Sound.sound`, `Shaped.shaped`, and of refusals: `Refused.refused-exactly`.
+-- Laws of the rules, and the proofs of what they promise: `Sound.sound`, `Shaped.shaped`, of refusals: `Refused.refused-exactly`, and of the
+-- published arithmetic: `Published.published`.
 pub mod Members
 pub mod Along
 pub mod Accepted
@@ -16,10 +17,15 @@ pub mod SpectrumCross
 pub mod SpectrumRows
 pub mod Whole
 pub mod Sound
+pub mod Nested
 pub mod Shaped
+pub mod Vanishing
 -- specs/Overflow and specs/Refused: refusal 12, where a run stops, and each refusal of rating
 pub mod Formulas
 pub mod Passing
 pub mod Overflow
 pub mod Stopped
+pub mod FirstBad
 pub mod Refused
+-- specs/Published: the arithmetic without a limit
+pub mod Published

@@ -29,13 +29,13 @@ use Rattle.rules.proofs.Passing.{passing-iff}
 
 -- ---- rows
 -- the factors, as `eight` takes them
-abbrev all : List ℕ
+abbrev pub all : List ℕ
 all = 0 ∷ 1 ∷ 2 ∷ 3 ∷ 4 ∷ 5 ∷ 6 ∷ 7 ∷ []
 
-record ProperRow (r : Row) : Type 0 where
-  value : Proper (r .value)
-  slope : (a : ℕ) → Proper (r .slope a)
-  spectrum : Proper (r .spectrum)
+pub record ProperRow (r : Row) : Type 0 where
+  pub value : Proper (r .value)
+  pub slope : (a : ℕ) → Proper (r .slope a)
+  pub spectrum : Proper (r .spectrum)
 
 exact-row : (r : Row) → ProperRow r → within (lineOf r) ≡ allWithin (stepsOf r)
 unfolding within lineOf stepsOf allWithin
@@ -59,10 +59,10 @@ ordered-row r p =
     slopes (a ∷ ks) = append-ordered (produced (r .slope a)) (in-order (r .slope a) (p .slope a) .steps) (slopes ks)
 
 -- ---- lines within the limit
-record ValidLine (x : Line) : Type 0 where
-  value : T (isValid (x .value))
-  slope : (a : ℕ) → T (isValid (at (x .gradient) a))
-  spectrum : T (isValid (x .spectrum))
+pub record ValidLine (x : Line) : Type 0 where
+  pub value : T (isValid (x .value))
+  pub slope : (a : ℕ) → T (isValid (at (x .gradient) a))
+  pub spectrum : T (isValid (x .spectrum))
 
 zero-valid : T (isValid zeroRange)
 unfolding isValid
@@ -73,7 +73,7 @@ each-valid [] t a = zero-valid
 each-valid (r ∷ g) t zero = and-left (isValid r) (eachValid g) t
 each-valid (r ∷ g) t (suc a) = each-valid g (and-right (isValid r) (eachValid g) t) a
 
-valid-line : (x : Line) → within x ≡ true → ValidLine x
+pub valid-line : (x : Line) → within x ≡ true → ValidLine x
 unfolding within
 valid-line x w =
     let slopes = eachValid (x .gradient) in
@@ -100,7 +100,7 @@ constant-valid (negsuc n) h = valid-of (fromTo (negsuc n) (negsuc n)) (record { 
 
 -- ---- the table
 -- of an extended spectrum and of that of a sum, from the spectra
-extended-proper : {P : Type 0} → P → P × (P × T (isValid zeroRange))
+pub extended-proper : {P : Type 0} → P → P × (P × T (isValid zeroRange))
 extended-proper p = (p, (p, zero-valid))
 
 sum-proper : {P Q : Type 0} → P → Q → (P × Q) × ((P × (P × T (isValid zeroRange))) × (Q × (Q × T (isValid zeroRange))))
@@ -170,7 +170,7 @@ module _ (ls : List Line) (p : AllLines (λ l. within l ≡ true) ls) where
   operand : (i : ℕ) → ValidLine (line ls i)
   operand i = valid-line (line ls i) (line-within p (i - 1))
 
-  proper : (o : Op) → WellFormedOp (length ls) o → invertsZero o ls ≡ false → ProperRow (rowOf o ls)
+  pub proper : (o : Op) → WellFormedOp (length ls) o → invertsZero o ls ≡ false → ProperRow (rowOf o ls)
   unfolding rowOf invertsZero
   proper (Add i j) w z = add-proper (operand i) (operand j)
   proper (Mul i j) w z = mul-proper (operand i) (operand j)

@@ -25,11 +25,12 @@ use Rattle.rules.specs.Run.{line, rowOf, within}
 use Rattle.rules.specs.Rate.{last, limitsOf, rated, pairs, rateOf}
 use Rattle.rules.specs.Exact.{Jet}
 use Rattle.rules.specs.Promises.{ShapedRating}
-use Rattle.rules.proofs.Members.{left-in, out-none, in-single}
+use Rattle.rules.proofs.Members.{left-in, out-none, in-single, below-part}
 use Rattle.rules.proofs.Enclosed.{spectrum-valid}
 use Rattle.rules.proofs.Along.{Along, along-line}
 use Rattle.rules.proofs.Accepted.{accepted, last-line}
-use Rattle.rules.proofs.Sparse.{product-zero, gradient-outside, gradient-beyond}
+use Rattle.rules.proofs.Sparse.{product-zero, support-below, gradient-outside, gradient-beyond}
+use Rattle.rules.proofs.Nested.{nested-sets}
 
 record Flat (l : Line) : Type 0 where
   factor : ℕ
@@ -124,4 +125,6 @@ shaped c xs l e = record {
   beyond-factors = gradient-beyond c xs l e;
   outside-support = gradient-outside c xs l e;
   empty-nonlinear = spectrum-empty c xs l e;
+  support-factors = support-below c xs l e .below;
+  nonlinear-factors = below-part (nested-sets c xs l e) (support-below c xs l e) .below;
 }

@@ -28,7 +28,7 @@ use Rattle.rules.specs.Table.{Row, factorRow, addRow, addcRow, mulcRow, 
 use Rattle.rules.specs.Run.{line, rowOf, within}
 use Rattle.rules.specs.Rate.{last, limitsOf, rated, pairs, rateOf}
 use Rattle.rules.specs.Exact.{Jet}
-use Rattle.rules.proofs.Members.{outside, left-in, right-in, in-single, beyond, below-power}
+use Rattle.rules.proofs.Members.{outside, left-in, right-in, in-single, Below, beyond, below-power}
 use Rattle.rules.proofs.Enclosed.{at-eight, gradient-valid}
 use Rattle.rules.proofs.Along.{Along, along-line}
 use Rattle.rules.proofs.Accepted.{accepted, last-line}
@@ -143,6 +143,10 @@ module _ (c : Codelist) (xs : List ℤ) (l : Limits) (e : rateOf c xs ≡ rated 
       last-line (SparseLine (c .factors)) (record { next = λ o f r t. sparse-next r o f t }) (accepted c xs l e) [] []
       (λ a k. factor-sparse (at (pairs xs) a) k)
 
+  pub support-below : Below (c .factors) (l .support)
+  unfolding limitsOf
+  support-below = rw (accepted c xs l e .limits) (below-power (c .factors) _ (last-sparse .few))
+
   -- the gradient is zero outside the support, and so is each pair beyond the last factor
   pub gradient-outside : (a : ℕ) → a < 8 → ¬ T (has (l .support) a) → at (l .gradient) a ≡ zeroRange
   unfolding limitsOf
@@ -150,5 +154,4 @@ module _ (c : Codelist) (xs : List ℤ) (l : Limits) (e : rateOf c xs ≡ rated 
 
   pub gradient-beyond : (a : ℕ) → c .factors ≤ a → a < 8 → at (l .gradient) a ≡ zeroRange
   unfolding limitsOf
-  gradient-beyond a h k =
-      rw (accepted c xs l e .limits) (last-sparse .zero a k (beyond (below-power (c .factors) _ (last-sparse .few)) a h))
+  gradient-beyond a h k = gradient-outside a k (beyond support-below a h)

@@ -176,7 +176,7 @@ pub record LinesWithin (n : ℕ) (ls : List Line) : Type 0 where
   pub each : AllLines (λ l. within l ≡ true) ls
   pub count : length ls ≡ n
 
-all-snoc : {P : Line → Type 0} {ls : List Line} (l : Line) → AllLines P ls → P l → AllLines P (ls ++ (l ∷ []))
+pub all-snoc : {P : Line → Type 0} {ls : List Line} (l : Line) → AllLines P ls → P l → AllLines P (ls ++ (l ∷ []))
 all-snoc l none p = more p none
 all-snoc l (more q a) p = more q (all-snoc l a p)
 

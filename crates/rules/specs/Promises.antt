@@ -1,5 +1,5 @@
--- What is promised of the limits of a class: the buyer's third demand, proved in proofs/Sound.antt, and what 01 says of them apart from any
--- point, proved in proofs/Shaped.antt.
+-- What is promised of the limits of a class: the buyer's third demand, proved in proofs/Sound.antt; what 01 says of every point that has a
+-- premium, proved in proofs/Vanishing.antt; and what it says of the limits apart from any point, proved in proofs/Shaped.antt.
 use mathlib.Core.Path.{_≡_}
 use mathlib.Core.Bool.{cond}
 use mathlib.Core.List.{List}
@@ -81,6 +81,17 @@ pub record Sound (c : Codelist) (l : Limits) (p : Point) : Type 0 where
 abbrev pub SoundRating : Type 0
 SoundRating = (c : Codelist) (xs : List ℤ) (l : Limits) → rateOf c xs ≡ rated l → (p : Point) → Inside c xs p → Sound c l p
 
+-- WHAT HOLDS AT EVERY POINT that has a premium, inside the ranges or not: "Outside P the exact first derivative is 0; outside B every exact second
+-- derivative with that factor is 0."
+pub record Vanishing (l : Limits) (premium : Jet) : Type 0 where
+  pub outside-support : (a : ℕ) → ¬ (T (has (l .support) a)) → premium .first a ≡ 0ℚ
+  pub outside-nonlinear : (a b : ℕ) → ¬ (T (has (l .nonlinear) a)) → (premium .second a b ≡ 0ℚ) × (premium .second b a ≡ 0ℚ)
+
+abbrev pub VanishingRating : Type 0
+VanishingRating =
+    (c : Codelist) (xs : List ℤ) (l : Limits) → rateOf c xs ≡ rated l → (p : Point) (premium : Jet) → premiumOf c p ≡ some premium
+    → Vanishing l premium
+
 -- WHAT THE LIMITS ARE APART FROM ANY POINT
 pub record Shaped (c : Codelist) (l : Limits) : Type 0 where
   -- "a pair beyond the last factor is 0, 0"; and so is one outside P
@@ -88,6 +99,16 @@ pub record Shaped (c : Codelist) (l : Limits) : Type 0 where
   pub outside-support : (a : ℕ) → a < 8 → ¬ (T (has (l .support) a)) → at (l .gradient) a ≡ zeroRange
   -- "For an empty B, E is zero."
   pub empty-nonlinear : l .nonlinear ≡ 0 → l .spectrum ≡ zeroRange
+  -- both sets are sets of the codelist's factors
+  pub support-factors : (a : ℕ) → T (has (l .support) a) → a < c .factors
+  pub nonlinear-factors : (a : ℕ) → T (has (l .nonlinear) a) → a < c .factors
 
 abbrev pub ShapedRating : Type 0
 ShapedRating = (c : Codelist) (xs : List ℤ) (l : Limits) → rateOf c xs ≡ rated l → Shaped c l
+
+-- The bent set lies within the depends-on set: 01's rows, which start at {i} and the empty set, make both of unions, and B of P.
+pub record Nested (l : Limits) : Type 0 where
+  pub into : (a : ℕ) → T (has (l .nonlinear) a) → T (has (l .support) a)
+
+abbrev pub NestedRating : Type 0
+NestedRating = (c : Codelist) (xs : List ℤ) (l : Limits) → rateOf c xs ≡ rated l → Nested l

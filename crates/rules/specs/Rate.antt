@@ -36,6 +36,10 @@ placeOf (BadRange a) = a
 placeOf (Divisor k) = k
 placeOf (Overflow k) = k
 
+-- The numbers of rating, in the order of checking
+abbrev pub rateNumbers : List ℕ
+rateNumbers = 10 ∷ 8 ∷ 9 ∷ 11 ∷ 12 ∷ []
+
 -- ════ the result ════
 
 -- "The result is that of the last line."

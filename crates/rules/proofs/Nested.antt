@@ -1,0 +1,47 @@
+-- The bent set lies within the depends-on set: `nested`. Each row keeps this. Assumes nothing.
+use mathlib.Core.Path.{_≡_}
+use mathlib.Core.List.{List, []}
+use mathlib.Core.Option.{Option}
+use Prim.Native.Nat.{ℕ}
+use lib.IntN.{ℤ}
+use lib.ListN.{length}
+use Rattle.codelist.specs.declared.Op.{Op}
+use Rattle.codelist.specs.declared.Op.the-variants.{Add, Mul, AddC, MulC, Pow, Inv}
+use Rattle.codelist.specs.declared.Codelist.{Codelist}
+use Rattle.codelist.specs.Codelist.{Earlier, WellFormedOp}
+use Rattle.rules.specs.declared.Line.{Line}
+use Rattle.rules.specs.declared.Limits.{Limits}
+use Rattle.rules.specs.Sets.{single, _∪_}
+use Rattle.rules.specs.Table.{factorRow, addRow, addcRow, mulcRow, mulRow, powRow, invRow, lineOf}
+use Rattle.rules.specs.Run.{line, rowOf}
+use Rattle.rules.specs.Rate.{limitsOf, rated, rateOf}
+use Rattle.rules.specs.Exact.{Jet}
+use Rattle.rules.specs.Promises.{NestedRating}
+use Rattle.rules.proofs.Members.{_⊆_, ⊆-refl, ⊆-union, none-in}
+use Rattle.rules.proofs.Along.{Along, along-line}
+use Rattle.rules.proofs.Accepted.{accepted, last-line}
+
+abbrev NestedLine : Option Jet → Option Jet → Line → Type 0
+NestedLine o u l = l .nonlinear ⊆ l .support
+
+module _ {os us : List (Option Jet)} {ls : List Line} (r : Along NestedLine os us ls) where
+  nested-at : (i : ℕ) → Earlier (length ls) i → line ls i .nonlinear ⊆ line ls i .support
+  nested-at i e = along-line NestedLine i e r
+
+  nested-next : (o : Op) → WellFormedOp (length ls) o → lineOf (rowOf o ls) .nonlinear ⊆ lineOf (rowOf o ls) .support
+  unfolding rowOf lineOf addRow addcRow mulcRow mulRow powRow invRow
+  nested-next (Add i j) f = ⊆-union (nested-at i (f .0)) (nested-at j (f .1))
+  nested-next (Mul i j) f = ⊆-refl (line ls i .support ∪ line ls j .support)
+  nested-next (AddC i c) f = nested-at i (f .0)
+  nested-next (MulC i c) f = nested-at i (f .0)
+  nested-next (Pow i m) f = ⊆-refl (line ls i .support)
+  nested-next (Inv i) f = ⊆-refl (line ls i .support)
+
+pub nested-sets : (c : Codelist) (xs : List ℤ) (l : Limits) → rateOf c xs ≡ rated l → l .nonlinear ⊆ l .support
+unfolding limitsOf factorRow lineOf
+nested-sets c xs l e =
+    rw (accepted c xs l e .limits)
+    (last-line NestedLine (record { next = λ o f r t. nested-next r o f }) (accepted c xs l e) [] [] (λ a k. none-in (single a)))
+
+pub nested : NestedRating
+nested c xs l e = record { into = nested-sets c xs l e .into }
