@@ -45,6 +45,10 @@ placeOf (Reference p) = p
 placeOf (Exponent p) = p
 placeOf (Constant p) = p
 
+-- The numbers of loading, in the order of checking
+abbrev pub loadNumbers : List ℕ
+loadNumbers = 1 ∷ 2 ∷ 3 ∷ 4 ∷ 5 ∷ 6 ∷ 7 ∷ []
+
 -- "A refusal carries number and place, every other field is 0": the codelist is the empty one
 unfoldable pub empty : Codelist
 empty = record { factors = 0; count = 0; ops = replicate 64 blank }

@@ -1,13 +1,13 @@
 -- The three demands, of what the engine's calls give. Assumes nothing.
 use mathlib.Core.Path.{_≡_, refl, sym, ap, ap₂, _∙_}
-use mathlib.Core.List.{List}
+use mathlib.Core.List.{List, [], _∷_, List·Memᴰ, List·Memᴰ·head, List·Memᴰ·tail}
 use mathlib.Core.Logic.{_↔_, _⊎_, inl, inr}
 use mathlib.Core.Bool.{Bool, true, false, cond}
-use Prim.Native.Nat.{ℕ, zero, suc, _≤_, _*_}
+use Prim.Native.Nat.{ℕ, zero, suc, _*_, _<_}
 use native.Mathlib.Omega.{arith}
 use lib.Dec.{lit≤, eqb}
 use lib.IntN.{ℤ}
-use lib.ListN.{length}
+use lib.ListN.{length, getD}
 use Rattle.codelist.specs.declared.Outcome as loading
 use Rattle.codelist.specs.declared.Refusal as codelist
 use Rattle.codelist.specs.declared.Codelist.{Codelist}
@@ -27,18 +27,30 @@ use Rattle.rules.specs.Rate.{noLimits, rateOf, rateRanges, finished, firstBad}
 use Rattle.rules.specs.Run.{Lines, through, stopped, linesOf}
 use Rattle.rules.proofs.Sound.{sound}
 use Rattle.rules.proofs.Shaped.{shaped}
-use Rattle.rules.proofs.Refused as Rules
+use Rattle.rules.proofs.Nested.{nested}
+use Rattle.rules.proofs.Vanishing.{vanishing}
+use Rattle.rules.proofs.Published.{published}
+use Rattle.rules.specs.Refused as Rules
+use Rattle.rules.proofs.Refused as rates
 use Rattle.engine.specs.declared.Engine.{Engine}
 use Rattle.engine.specs.declared.Refusal as refusal
 use Rattle.engine.specs.declared.Refusal.{Refusal}
 use Rattle.engine.specs.declared.Outcome.{Outcome}
 use Rattle.engine.specs.declared.Outcome.the-variants.{Accepted, Refused}
-use Rattle.engine.specs.Engine.{numberOf, emptyEngine, loaded, loadedOf, outcomeOf, ratedOf}
+use Rattle.engine.specs.Engine.{numberOf, placeOf, emptyEngine, loaded, loadedOf, outcomeOf, answerOf, ratedOf}
+use Rattle.engine.specs.Refusals.{RefusedWith, LoadTable, bytes, form, factors, lines, no-operation, reference, exponent, constant}
+use Rattle.engine.specs.Refusals.{RateTable, count, range, no-codelist, divisor, overflow}
 use Rattle.engine.specs.Demands.{Demands}
 
 -- an accepted outcome is no refusal
 not-both : {A : Type 0} {r : Refusal} → Accepted ≡ Refused r → A
 not-both e = let z : _≡_ {A = ℕ} 0 1 = cc in let f : ⊥ = omega arith in absurd f
+
+-- the entry i of a list is in it
+is-in : (i : ℕ) (xs : List ℕ) → i < length xs → List·Memᴰ (getD xs i 0) xs
+is-in i [] l = absurd (omega arith)
+is-in zero (x ∷ xs) l = List·Memᴰ·head refl
+is-in (suc i) (x ∷ xs) l = List·Memᴰ·tail (is-in i xs (omega arith))
 
 -- ---- loading
 module _ (e : Engine) where
@@ -50,15 +62,15 @@ module _ (e : Engine) where
   kept loading.the-variants.Accepted c r h = not-both h
   kept (loading.the-variants.Refused q) c r h = refl
 
-  number : (q : codelist.Refusal) → (1 ≤ Load.numberOf q) × (Load.numberOf q ≤ 7)
-  number codelist.the-variants.TooLong = (lit≤ tt, lit≤ tt)
-  number (codelist.the-variants.Malformed p) = (lit≤ tt, lit≤ tt)
-  number codelist.the-variants.FactorCount = (lit≤ tt, lit≤ tt)
-  number (codelist.the-variants.TooManyLines p) = (lit≤ tt, lit≤ tt)
-  number codelist.the-variants.NoOperation = (lit≤ tt, lit≤ tt)
-  number (codelist.the-variants.Reference p) = (lit≤ tt, lit≤ tt)
-  number (codelist.the-variants.Exponent p) = (lit≤ tt, lit≤ tt)
-  number (codelist.the-variants.Constant p) = (lit≤ tt, lit≤ tt)
+  number : (q : codelist.Refusal) → List·Memᴰ (Load.numberOf q) Load.loadNumbers
+  number codelist.the-variants.TooLong = is-in 0 _ (lit≤ tt)
+  number (codelist.the-variants.Malformed p) = is-in 1 _ (lit≤ tt)
+  number codelist.the-variants.FactorCount = is-in 2 _ (lit≤ tt)
+  number (codelist.the-variants.TooManyLines p) = is-in 3 _ (lit≤ tt)
+  number codelist.the-variants.NoOperation = is-in 3 _ (lit≤ tt)
+  number (codelist.the-variants.Reference p) = is-in 4 _ (lit≤ tt)
+  number (codelist.the-variants.Exponent p) = is-in 5 _ (lit≤ tt)
+  number (codelist.the-variants.Constant p) = is-in 6 _ (lit≤ tt)
 
   -- what the outcome says of the codelist's own
   was-accepted : (o : loading.Outcome) (c : Codelist) → loaded e o c .outcome ≡ Accepted → o ≡ loading.the-variants.Accepted
@@ -70,7 +82,7 @@ module _ (e : Engine) where
   was-refused loading.the-variants.Accepted c r h = not-both h
   was-refused (loading.the-variants.Refused q) c r h = cc
 
-  load-number : (o : loading.Outcome) (c : Codelist) (r : Refusal) → loaded e o c .outcome ≡ Refused r → (1 ≤ numberOf r) × (numberOf r ≤ 7)
+  load-number : (o : loading.Outcome) (c : Codelist) (r : Refusal) → loaded e o c .outcome ≡ Refused r → List·Memᴰ (numberOf r) Load.loadNumbers
   load-number loading.the-variants.Accepted c r h = not-both h
   load-number (loading.the-variants.Refused q) c r h =
       let k : refusal.the-variants.Load q ≡ r = cc in rw (← k) (number q)
@@ -124,12 +136,12 @@ shape c xs = shape-if (ratable c) (shape-if (eqb (length xs) (2 * c .factors)) (
     ranges zero = shape-lines (c .factors) (linesOf c (Rate.pairs xs))
     ranges (suc k) = inr (rules.the-variants.BadRange (suc k), refl)
 
-rate-number : (q : rules.Refusal) → (8 ≤ Rate.numberOf q) × (Rate.numberOf q ≤ 12)
-rate-number rules.the-variants.NoCodelist = (lit≤ tt, lit≤ tt)
-rate-number rules.the-variants.RangeCount = (lit≤ tt, lit≤ tt)
-rate-number (rules.the-variants.BadRange a) = (lit≤ tt, lit≤ tt)
-rate-number (rules.the-variants.Divisor k) = (lit≤ tt, lit≤ tt)
-rate-number (rules.the-variants.Overflow k) = (lit≤ tt, lit≤ tt)
+rate-number : (q : rules.Refusal) → List·Memᴰ (Rate.numberOf q) Rate.rateNumbers
+rate-number rules.the-variants.NoCodelist = is-in 0 _ (lit≤ tt)
+rate-number rules.the-variants.RangeCount = is-in 1 _ (lit≤ tt)
+rate-number (rules.the-variants.BadRange a) = is-in 2 _ (lit≤ tt)
+rate-number (rules.the-variants.Divisor k) = is-in 3 _ (lit≤ tt)
+rate-number (rules.the-variants.Overflow k) = is-in 4 _ (lit≤ tt)
 
 module _ (x : Rating) where
   rate-decided : Shape x → (outcomeOf (x .outcome) ≡ Accepted) ⊎ ((r : Refusal) × (outcomeOf (x .outcome) ≡ Refused r))
@@ -163,11 +175,92 @@ module _ (e : Engine) (xs : List ℤ) (r : rules.Refusal) where
   unfolding ratedOf
   refused-back h = ap (λ (y : Rating). outcomeOf (y .outcome)) h
 
+-- ---- 01's tables by number and place
+-- from the table of enums to that of numbers
+load-row : (s : List ℕ) (r : codelist.Refusal) → RefusedFor s r → LoadTable s (Load.numberOf r) (Load.placeOf r)
+load-row s codelist.the-variants.TooLong h = bytes h
+load-row s (codelist.the-variants.Malformed p) h = form h
+load-row s codelist.the-variants.FactorCount h = factors h
+load-row s (codelist.the-variants.TooManyLines p) h = lines h
+load-row s codelist.the-variants.NoOperation h = no-operation h
+load-row s (codelist.the-variants.Reference p) h = reference h
+load-row s (codelist.the-variants.Exponent p) h = exponent h
+load-row s (codelist.the-variants.Constant p) h = constant h
+
+rate-row : (c : Codelist) (xs : List ℤ) (r : rules.Refusal) → Rules.RefusedFor c xs r → RateTable c xs (Rate.numberOf r) (Rate.placeOf r)
+rate-row c xs rules.the-variants.NoCodelist h = no-codelist h
+rate-row c xs rules.the-variants.RangeCount h = count h
+rate-row c xs (rules.the-variants.BadRange a) h = range h
+rate-row c xs (rules.the-variants.Divisor k) h = divisor h
+rate-row c xs (rules.the-variants.Overflow k) h = overflow h
+
+module _ (e : Engine) (s : List ℕ) where
+  load-refused : (r : codelist.Refusal) → RefusedFor s r → RefusedWith (loadedOf e s .outcome) (Load.numberOf r) (Load.placeOf r)
+  load-refused r w = record { refusal = refusal.the-variants.Load r; refused = unlisted e s r w; number = refl; place = refl }
+
+  from-load-table : {k p : ℕ} → LoadTable s k p → RefusedWith (loadedOf e s .outcome) k p
+  from-load-table (bytes h) = load-refused codelist.the-variants.TooLong h
+  from-load-table (form {line} h) = load-refused (codelist.the-variants.Malformed line) h
+  from-load-table (factors h) = load-refused codelist.the-variants.FactorCount h
+  from-load-table (lines {line} h) = load-refused (codelist.the-variants.TooManyLines line) h
+  from-load-table (no-operation h) = load-refused codelist.the-variants.NoOperation h
+  from-load-table (reference {line} h) = load-refused (codelist.the-variants.Reference line) h
+  from-load-table (exponent {line} h) = load-refused (codelist.the-variants.Exponent line) h
+  from-load-table (constant {line} h) = load-refused (codelist.the-variants.Constant line) h
+
+  -- loading refuses with a refusal of its own
+  load-own : (r : Refusal) → loadedOf e s .outcome ≡ Refused r → (q : codelist.Refusal) × (r ≡ refusal.the-variants.Load q)
+  unfolding loadedOf
+  load-own r h = go (Load.loadOf s .outcome) h
+    where
+      go : (o : loading.Outcome) → loaded e o (Load.loadOf s .codelist) .outcome ≡ Refused r → (q : codelist.Refusal) × (r ≡ refusal.the-variants.Load q)
+      go loading.the-variants.Accepted h = not-both h
+      go (loading.the-variants.Refused q) h = (q, cc)
+
+  to-load-table : {k p : ℕ} → RefusedWith (loadedOf e s .outcome) k p → LoadTable s k p
+  to-load-table w =
+      let own = load-own (w .refusal) (w .refused) in
+      let q = own .0 in
+      let t = load-row s q (listed e s q (w .refused ∙ ap Refused (own .1))) in
+      rw (← (w .number), ← (w .place), own .1) t
+
+module _ (e : Engine) (xs : List ℤ) where
+  table : (r : rules.Refusal) → (ratedOf e xs .outcome ≡ Refused (refusal.the-variants.Rate r)) ↔ Rules.RefusedFor (e .codelist) xs r
+  table r =
+      let i = rates.refused-exactly .where-listed (e .codelist) xs r in
+      (λ h. i .0 (same-refusal e xs r h), λ w. refused-back e xs r (i .1 w))
+
+  rate-refused : (r : rules.Refusal) → Rules.RefusedFor (e .codelist) xs r → RefusedWith (ratedOf e xs .outcome) (Rate.numberOf r) (Rate.placeOf r)
+  rate-refused r w = record { refusal = refusal.the-variants.Rate r; refused = table r .1 w; number = refl; place = refl }
+
+  from-rate-table : {k p : ℕ} → RateTable (e .codelist) xs k p → RefusedWith (ratedOf e xs .outcome) k p
+  from-rate-table (count h) = rate-refused rules.the-variants.RangeCount h
+  from-rate-table (range {factor} h) = rate-refused (rules.the-variants.BadRange factor) h
+  from-rate-table (no-codelist h) = rate-refused rules.the-variants.NoCodelist h
+  from-rate-table (divisor {line} h) = rate-refused (rules.the-variants.Divisor line) h
+  from-rate-table (overflow {line} h) = rate-refused (rules.the-variants.Overflow line) h
+
+  -- rating refuses with a refusal of its own
+  rate-own : (r : Refusal) → ratedOf e xs .outcome ≡ Refused r → (q : rules.Refusal) × (r ≡ refusal.the-variants.Rate q)
+  unfolding ratedOf
+  rate-own r h = refused-with (rateOf (e .codelist) xs) (shape (e .codelist) xs) r h .1
+
+  to-rate-table : {k p : ℕ} → RefusedWith (ratedOf e xs .outcome) k p → RateTable (e .codelist) xs k p
+  to-rate-table w =
+      let own = rate-own (w .refusal) (w .refused) in
+      let q = own .0 in
+      let t = rate-row (e .codelist) xs q (table q .0 (w .refused ∙ ap Refused (own .1))) in
+      rw (← (w .number), ← (w .place), own .1) t
+
+  accepted-rating : ratedOf e xs .outcome ≡ Accepted → rateOf (e .codelist) xs ≡ Rate.rated (ratedOf e xs .limits)
+  unfolding ratedOf
+  accepted-rating h = rated-with (rateOf (e .codelist) xs) (shape (e .codelist) xs) h
+
 -- 10 is never given of what an accepted load leaves
 never-ten : (e : Engine) (xs : List ℤ) → WellFormed (e .codelist)
     → ¬ (ratedOf e xs .outcome ≡ Refused (refusal.the-variants.Rate rules.the-variants.NoCodelist))
 never-ten e xs w h =
-    Rules.refused-exactly .where-listed (e .codelist) xs rules.the-variants.NoCodelist .0 (same-refusal e xs rules.the-variants.NoCodelist h)
+    rates.refused-exactly .where-listed (e .codelist) xs rules.the-variants.NoCodelist .0 (same-refusal e xs rules.the-variants.NoCodelist h)
     (well-formed-ratable w)
 
 pub demands : Demands
@@ -176,19 +269,21 @@ demands = record {
   load-decided = λ e s. decided e (Load.loadOf s .outcome) (Load.loadOf s .codelist);
   rate-decided = λ e xs. rate-decided (rateOf (e .codelist) xs) (shape (e .codelist) xs);
   load-numbers = λ e s r h. load-number e (Load.loadOf s .outcome) (Load.loadOf s .codelist) r h;
-  rate-numbers = λ e xs r h.
-      let q = refused-with (rateOf (e .codelist) xs) (shape (e .codelist) xs) r h .1 in
-      rw (q .1) (rate-number (q .0));
+  rate-numbers = λ e xs r h. let q = rate-own e xs r h in rw (q .1) (rate-number (q .0));
   load-kept = λ e s r h. kept e (Load.loadOf s .outcome) (Load.loadOf s .codelist) r h;
   rate-zero = λ e xs r h. refused-with (rateOf (e .codelist) xs) (shape (e .codelist) xs) r h .0;
   accepted-written = λ e s. (λ h. (loadedOf e s .engine .codelist, written e s h), λ w. back e s (w .0) (w .1));
   loaded-written = λ e s h. written e s h;
+  load-table = λ e s k p. (to-load-table e s, from-load-table e s);
+  rate-table = λ e xs k p. (to-rate-table e xs, from-rate-table e xs);
   refused-listed = λ e s r. (λ h. listed e s r h, λ w. unlisted e s r w);
-  rate-refused-listed = λ e xs r.
-      let i = Rules.refused-exactly .where-listed (e .codelist) xs r in
-      (λ h. i .0 (same-refusal e xs r h), λ w. refused-back e xs r (i .1 w));
+  rate-refused-listed = table;
+  published = λ e xs. ap answerOf (published .rating (e .codelist) xs);
+  published-lines = λ e xs h. published .lines (e .codelist) xs (ratedOf e xs .limits) (accepted-rating e xs h);
   empty-refused = λ xs. refl;
   loaded-not-empty = λ e s xs h r. never-ten (loadedOf e s .engine) xs (written e s h .0) r;
-  shaped = λ e xs h. shaped (e .codelist) xs (ratedOf e xs .limits) (rated-with (rateOf (e .codelist) xs) (shape (e .codelist) xs) h);
-  sound = λ e xs h p i. sound (e .codelist) xs (ratedOf e xs .limits) (rated-with (rateOf (e .codelist) xs) (shape (e .codelist) xs) h) p i;
+  shaped = λ e xs h. shaped (e .codelist) xs (ratedOf e xs .limits) (accepted-rating e xs h);
+  nested = λ e xs h. nested (e .codelist) xs (ratedOf e xs .limits) (accepted-rating e xs h);
+  sound = λ e xs h p i. sound (e .codelist) xs (ratedOf e xs .limits) (accepted-rating e xs h) p i;
+  vanishing = λ e xs h p j is. vanishing (e .codelist) xs (ratedOf e xs .limits) (accepted-rating e xs h) p j is;
 }

@@ -1,35 +1,39 @@
 -- The buyer's three demands, of what `load` and `rate` give: proved in proofs/Demands.antt. Every call has an outcome for every value of its parameters,
 -- since `loadedOf` and `ratedOf` are functions and the contracts of `load` and `rate` are equations with no condition.
 use mathlib.Core.Path.{_≡_}
-use mathlib.Core.List.{List}
+use mathlib.Core.List.{List, List·Memᴰ}
 use mathlib.Core.Logic.{_↔_, _⊎_}
-use Prim.Native.Nat.{ℕ, _≤_}
+use mathlib.Core.Option.{some}
+use Prim.Native.Nat.{ℕ}
 use lib.IntN.{ℤ}
 use Rattle.codelist.specs.declared.Codelist.{Codelist}
 use Rattle.codelist.specs.declared.Refusal as codelist
 use Rattle.codelist.specs.Codelist.{WellFormed}
+use Rattle.codelist.specs.Load.{loadNumbers}
 use Rattle.codelist.specs.Refused.{RefusedFor}
 use Rattle.codelist.specs.Write.{textOf}
 use Rattle.rules.specs.declared.Limits.{Limits}
 use Rattle.rules.specs.declared.Refusal.the-variants.{NoCodelist}
-use Rattle.rules.specs.Rate.{noLimits}
-use Rattle.rules.specs.Exact.{Point}
+use Rattle.rules.specs.Rate.{rateNumbers, noLimits}
+use Rattle.rules.specs.Published.{publishedOf, PublishedLines}
+use Rattle.rules.specs.Exact.{Point, Jet, premiumOf}
 use Rattle.rules.specs.declared.Refusal as rules
 use Rattle.rules.specs.Refused as Rules
-use Rattle.rules.specs.Promises.{Inside, Sound, Shaped}
+use Rattle.rules.specs.Promises.{Inside, Sound, Vanishing, Shaped, Nested}
 use Rattle.engine.specs.declared.Engine.{Engine}
 use Rattle.engine.specs.declared.Refusal as refusal
 use Rattle.engine.specs.declared.Refusal.{Refusal}
 use Rattle.engine.specs.declared.Outcome.the-variants.{Accepted, Refused}
-use Rattle.engine.specs.Engine.{numberOf, emptyEngine, loadedOf, ratedOf}
+use Rattle.engine.specs.Engine.{numberOf, emptyEngine, loadedOf, answerOf, ratedOf}
+use Rattle.engine.specs.Refusals.{RefusedWith, LoadTable, RateTable}
 
 pub record Demands : Type 0 where
   -- 1. "gets the whole result or one numbered refusal of paper 01 with its place"
   pub load-decided : (e : Engine) (s : List ℕ) → (loadedOf e s .outcome ≡ Accepted) ⊎ ((r : Refusal) × (loadedOf e s .outcome ≡ Refused r))
   pub rate-decided : (e : Engine) (xs : List ℤ) → (ratedOf e xs .outcome ≡ Accepted) ⊎ ((r : Refusal) × (ratedOf e xs .outcome ≡ Refused r))
-  -- the numbers are 1 to 7 of loading, 8 to 12 of rating
-  pub load-numbers : (e : Engine) (s : List ℕ) (r : Refusal) → loadedOf e s .outcome ≡ Refused r → (1 ≤ numberOf r) × (numberOf r ≤ 7)
-  pub rate-numbers : (e : Engine) (xs : List ℤ) (r : Refusal) → ratedOf e xs .outcome ≡ Refused r → (8 ≤ numberOf r) × (numberOf r ≤ 12)
+  -- the numbers are those of loading, and of rating
+  pub load-numbers : (e : Engine) (s : List ℕ) (r : Refusal) → loadedOf e s .outcome ≡ Refused r → List·Memᴰ (numberOf r) loadNumbers
+  pub rate-numbers : (e : Engine) (xs : List ℤ) (r : Refusal) → ratedOf e xs .outcome ≡ Refused r → List·Memᴰ (numberOf r) rateNumbers
   -- "After a refusal every result field is 0 and the desk holds what it held."
   pub load-kept : (e : Engine) (s : List ℕ) (r : Refusal) → loadedOf e s .outcome ≡ Refused r → loadedOf e s .engine ≡ e
   pub rate-zero : (e : Engine) (xs : List ℤ) (r : Refusal) → ratedOf e xs .outcome ≡ Refused r → ratedOf e xs .limits ≡ noLimits
@@ -39,18 +43,31 @@ pub record Demands : Type 0 where
   -- what is loaded is what the text writes
   pub loaded-written : (e : Engine) (s : List ℕ) → loadedOf e s .outcome ≡ Accepted
       → WellFormed (loadedOf e s .engine .codelist) × (s ≡ textOf (loadedOf e s .engine .codelist))
-  -- each refusal of loading says of the bytes what 01's table says
+  -- "refusal": each number and place of loading is given exactly where 01's table has it of the bytes, and each of rating exactly where it has it
+  -- of the codelist and the numbers
+  pub load-table : (e : Engine) (s : List ℕ) (k p : ℕ) → RefusedWith (loadedOf e s .outcome) k p ↔ LoadTable s k p
+  pub rate-table : (e : Engine) (xs : List ℤ) (k p : ℕ) → RefusedWith (ratedOf e xs .outcome) k p ↔ RateTable (e .codelist) xs k p
+  -- the same by the enums: each refusal of loading says of the bytes what 01's table says
   pub refused-listed : (e : Engine) (s : List ℕ) (r : codelist.Refusal)
       → (loadedOf e s .outcome ≡ Refused (refusal.the-variants.Load r)) ↔ RefusedFor s r
   -- and so does each refusal of rating of the codelist and the numbers
   pub rate-refused-listed : (e : Engine) (xs : List ℤ) (r : rules.Refusal)
       → (ratedOf e xs .outcome ≡ Refused (refusal.the-variants.Rate r)) ↔ Rules.RefusedFor (e .codelist) xs r
+  -- "Every bound, set and refusal equals what the published Hessian eigenvalue arithmetic yields under 01's rules and outward rounding": of every
+  -- engine and all numbers, and, of accepted ranges, line by line
+  pub published : (e : Engine) (xs : List ℤ) → ratedOf e xs ≡ answerOf (publishedOf (e .codelist) xs)
+  pub published-lines : (e : Engine) (xs : List ℤ) → ratedOf e xs .outcome ≡ Accepted → PublishedLines (e .codelist) xs (ratedOf e xs .limits)
   -- an engine that was started and not loaded is refused with 10, and one that an accepted load left never is
   pub empty-refused : (xs : List ℤ) → ratedOf emptyEngine xs .outcome ≡ Refused (refusal.the-variants.Rate NoCodelist)
   pub loaded-not-empty : (e : Engine) (s : List ℕ) (xs : List ℤ) → loadedOf e s .outcome ≡ Accepted
       → ¬ (ratedOf (loadedOf e s .engine) xs .outcome ≡ Refused (refusal.the-variants.Rate NoCodelist))
-  -- "a pair beyond the last factor is 0, 0", and "For an empty B, E is zero"
+  -- "a pair beyond the last factor is 0, 0", and "For an empty B, E is zero"; both sets hold factors of the codelist, and the bent set is within
+  -- the depends-on set
   pub shaped : (e : Engine) (xs : List ℤ) → ratedOf e xs .outcome ≡ Accepted → Shaped (e .codelist) (ratedOf e xs .limits)
+  pub nested : (e : Engine) (xs : List ℤ) → ratedOf e xs .outcome ≡ Accepted → Nested (ratedOf e xs .limits)
   -- 3. "Whatever accepted sheet and ranges, whatever point with fractions as coordinates inside them, whatever list v of whole numbers"
   pub sound : (e : Engine) (xs : List ℤ) → ratedOf e xs .outcome ≡ Accepted → (p : Point) → Inside (e .codelist) xs p
       → Sound (e .codelist) (ratedOf e xs .limits) p
+  -- "Outside P the exact first derivative is 0; outside B every exact second derivative with that factor is 0": at every point that has a premium
+  pub vanishing : (e : Engine) (xs : List ℤ) → ratedOf e xs .outcome ≡ Accepted → (p : Point) (premium : Jet)
+      → premiumOf (e .codelist) p ≡ some premium → Vanishing (ratedOf e xs .limits) premium

@@ -7,6 +7,7 @@ use Rattle.codelist.specs.declared.Outcome as loading
 use Rattle.codelist.specs.declared.Codelist.{Codelist}
 use Rattle.codelist.specs.Load as Load
 use Rattle.rules.specs.declared.Outcome as rating
+use Rattle.rules.specs.declared.Rating as rules
 use Rattle.rules.specs.declared.Limits.{Limits}
 use Rattle.rules.specs.Rate as Rate
 use Rattle.engine.specs.declared.Engine.{Engine}
@@ -43,5 +44,8 @@ abbrev pub outcomeOf : rating.Outcome → Outcome
 outcomeOf rating.the-variants.Rated = Accepted
 outcomeOf (rating.the-variants.Refused r) = Refused (refusal.the-variants.Rate r)
 
+abbrev pub answerOf : rules.Rating → Rating
+answerOf r = record { outcome = outcomeOf (r .outcome); limits = r .limits }
+
 unfoldable pub ratedOf : Engine → List ℤ → Rating
-ratedOf e xs = record { outcome = outcomeOf (Rate.rateOf (e .codelist) xs .outcome); limits = Rate.rateOf (e .codelist) xs .limits }
+ratedOf e xs = answerOf (Rate.rateOf (e .codelist) xs)
