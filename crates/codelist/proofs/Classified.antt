@@ -12,7 +12,7 @@ use lib.Seq.{take-append-seam, drop-append-seam}
 use borrow.Author.Tests.{le-leb, lt-leb}
 use Rattle.codelist.specs.declared.Codelist.{Codelist}
 use Rattle.codelist.specs.declared.Entry.{Entry}
-use Rattle.codelist.specs.declared.Line.{Line}
+use Rattle.codelist.specs.declared.lines.Line.{Line}
 use Rattle.codelist.specs.declared.Loaded.{Loaded}
 use Rattle.codelist.specs.declared.Numeral.{Numeral}
 use Rattle.codelist.specs.declared.Refusal.{Refusal}
@@ -26,10 +26,10 @@ use Rattle.codelist.specs.Load.{refused, accepted, codelistOf, ended, on
 use Rattle.codelist.specs.Refused.{Upto, RefusedFor, too-long, no-first-line, malformed, factor-count, too-many-lines, no-operation}
 use Rattle.codelist.specs.Refused.{reference, exponent, constant}
 use Rattle.codelist.proofs.Laws.{within-inv}
-use Rattle.codelist.proofs.Numerals.{never}
+use Rattle.codelist.proofs.NumeralTexts.{never}
 use Rattle.codelist.proofs.LineTexts.{line-sound, line-complete, first-sound, first-complete}
 use Rattle.codelist.proofs.Checks.{plain-is, Broken, broken-reference, broken-exponent, broken-constant, fault-sound}
-use Rattle.codelist.proofs.Lines.{Stop, at-end, at-bad, at-full, at-fault, Trace, trace}
+use Rattle.codelist.proofs.Traces.{Stop, at-end, at-bad, at-full, at-fault, Trace, trace}
 
 -- The codelist of n factors and well formed operations
 module _ (n : ℕ) (xs : List Entry) where

@@ -1,5 +1,5 @@
 pub mod Laws
-pub mod Numerals
+pub mod NumeralTexts
 pub mod LineTexts
 pub mod Checks
 pub mod Lengths
@@ -7,7 +7,7 @@ pub mod Steps
 pub mod Loop
 pub mod WellFormed
 pub mod Ratable
-pub mod Lines
+pub mod Traces
 pub mod Resumed
 pub mod Classified
 pub mod Accepted

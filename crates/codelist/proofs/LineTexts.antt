@@ -8,17 +8,17 @@ use native.Mathlib.Decide.{ℕ-discrete}
 use native.Mathlib.Omega.{arith}
 use lib.Dec.{ltb, eqb, lit<}
 use borrow.Author.Tests.{eq-eqb, ne-eqb, ltb-true}
-use Rattle.codelist.specs.declared.Line.{Line}
-use Rattle.codelist.specs.declared.Line.the-variants.{Add, Mul, AddC, MulC, Pow, Inv}
+use Rattle.codelist.specs.declared.lines.Line.{Line}
+use Rattle.codelist.specs.declared.lines.Line.the-variants.{Add, Mul, AddC, MulC, Pow, Inv}
 use Rattle.codelist.specs.declared.Numeral.{Numeral}
-use Rattle.codelist.specs.declared.Word.{Word}
-use Rattle.codelist.specs.declared.Word.the-variants as word
+use Rattle.codelist.specs.declared.lines.Word.{Word}
+use Rattle.codelist.specs.declared.lines.Word.the-variants as word
 use Rattle.codelist.specs.Text.{IsNumeral, HasNumerals, FirstAt, LineAt, numeralText, two, firstText, lineText, factors→, add→}
 use Rattle.codelist.specs.Text.{mul→, addc→, mulc→, pow→, inv→}
 use Rattle.codelist.specs.Read.{Read, good, bad, next, _or_, peek, rest, digit, numeral, field, literal, named, keyword, pair, both}
 use Rattle.codelist.specs.Read.{operands, operationLine, firstLine}
 use Rattle.codelist.proofs.Laws.{both-true}
-use Rattle.codelist.proofs.Numerals.{NumeralAt, numeral-sound, numeral-complete, peek-cons, never}
+use Rattle.codelist.proofs.NumeralTexts.{NumeralAt, numeral-sound, numeral-complete, peek-cons, never}
 
 -- What a reader after another one gave comes from what the first gave
 pub next-inv : {A B : Type 0} (a : Read A) (f : A → List ℕ → Read B) (b : B) (t : List ℕ) → next a f ≡ good b t

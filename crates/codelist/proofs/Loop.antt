@@ -7,10 +7,10 @@ use native.Mathlib.Numerals.{add-one}
 use native.Mathlib.Omega.{arith}
 use lib.ListN.{length, take, drop, set, replicate, length-set, length-drop, take-append-drop, drop-of-length-le}
 use lib.Seq.{length-take-le, take-suc-set, drop-set-lt, drop-drop}
-use Rattle.codelist.specs.declared.Checked.{Checked}
-use Rattle.codelist.specs.declared.Checked.the-variants.{Fine, Fault}
+use Rattle.codelist.specs.declared.loading.Checked.{Checked}
+use Rattle.codelist.specs.declared.loading.Checked.the-variants.{Fine, Fault}
 use Rattle.codelist.specs.declared.Entry.{Entry}
-use Rattle.codelist.specs.declared.Line.{Line}
+use Rattle.codelist.specs.declared.lines.Line.{Line}
 use Rattle.codelist.specs.declared.Op.{Op}
 use Rattle.codelist.specs.declared.Refusal.{Refusal}
 use Rattle.codelist.specs.declared.Refusal.the-variants.{Malformed, TooManyLines, NoOperation}

@@ -16,7 +16,7 @@ use Rattle.codelist.specs.Load.{onFirst, operationLines, loadOf}
 use Rattle.codelist.specs.Refused.{Upto}
 use Rattle.codelist.proofs.LineTexts.{first-complete}
 use Rattle.codelist.proofs.Checks.{plain-numeral, within-yes}
-use Rattle.codelist.proofs.Lines.{run}
+use Rattle.codelist.proofs.Traces.{run}
 
 -- a text that is not too long, and one with a first line
 pub not-long : (s : List ℕ) → length s ≤ 4096 → loadOf s ≡ onFirst (firstLine s)

@@ -3,16 +3,16 @@ use Prim.Native.Nat.{ℕ, suc, zero, _+_}
 use mathlib.Core.List.{List, [], _∷_, _++_}
 use mathlib.Core.Path.{_≡_, refl, _∙_}
 use lib.ListN.{length}
-use Rattle.codelist.specs.declared.Checked.the-variants.{Fine, Fault}
+use Rattle.codelist.specs.declared.loading.Checked.the-variants.{Fine, Fault}
 use Rattle.codelist.specs.declared.Entry.{Entry}
-use Rattle.codelist.specs.declared.Line.{Line}
+use Rattle.codelist.specs.declared.lines.Line.{Line}
 use Rattle.codelist.specs.declared.Loaded.{Loaded}
 use Rattle.codelist.specs.declared.Op.{Op}
 use Rattle.codelist.specs.declared.Refusal.{Refusal}
 use Rattle.codelist.specs.declared.Refusal.the-variants.{Malformed, TooManyLines}
 use Rattle.codelist.specs.Read.{good, bad, keyword, named, literal, peek, operationLine}
 use Rattle.codelist.specs.Load.{refused, ended, atEnd, checkedOf, operationLines}
-use Rattle.codelist.proofs.Numerals.{never}
+use Rattle.codelist.proofs.NumeralTexts.{never}
 
 -- Where something stands, the text is not at its end
 not-nil : (s : List ℕ) (x y : Loaded) → (s ≡ [] → ⊥) → atEnd s x y ≡ y

@@ -2,8 +2,8 @@
 use Prim.Native.Nat.{ℕ}
 use mathlib.Core.Bool.{Bool, true, false, cond, _&&_}
 use lib.Dec.{leb}
-use Rattle.codelist.specs.declared.Line.{Line}
-use Rattle.codelist.specs.declared.Line.the-variants.{Add, Mul, AddC, MulC, Pow, Inv}
+use Rattle.codelist.specs.declared.lines.Line.{Line}
+use Rattle.codelist.specs.declared.lines.Line.the-variants.{Add, Mul, AddC, MulC, Pow, Inv}
 use Rattle.codelist.specs.declared.Numeral.{Numeral}
 use Rattle.codelist.specs.Codelist.{limit}
 

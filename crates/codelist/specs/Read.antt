@@ -3,11 +3,11 @@ use Prim.Native.Nat.{ℕ, suc, zero, _+_, _-_, _*_}
 use mathlib.Core.Bool.{Bool, true, false, cond}
 use mathlib.Core.List.{List, [], _∷_}
 use lib.Dec.{leb, ltb, eqb}
-use Rattle.codelist.specs.declared.Line.{Line}
-use Rattle.codelist.specs.declared.Line.the-variants.{Add, Mul, AddC, MulC, Pow, Inv}
+use Rattle.codelist.specs.declared.lines.Line.{Line}
+use Rattle.codelist.specs.declared.lines.Line.the-variants.{Add, Mul, AddC, MulC, Pow, Inv}
 use Rattle.codelist.specs.declared.Numeral.{Numeral}
-use Rattle.codelist.specs.declared.Word.{Word}
-use Rattle.codelist.specs.declared.Word.the-variants as word
+use Rattle.codelist.specs.declared.lines.Word.{Word}
+use Rattle.codelist.specs.declared.lines.Word.the-variants as word
 use Rattle.codelist.specs.Text.{factors→, add→, mul→, addc→, mulc→, pow→, inv→}
 
 -- The next byte, and 256, which is no byte, at the end

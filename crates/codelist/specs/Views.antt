@@ -2,16 +2,16 @@
 use Prim.Native.Nat.{ℕ, _≤_}
 use mathlib.Core.List.{List}
 use lib.ListN.{drop}
-use Rattle.codelist.specs.declared.Line.{Line}
-use Rattle.codelist.specs.declared.Line.the-variants.{Add, Mul, AddC, MulC, Pow, Inv}
-use Rattle.codelist.specs.declared.LineRead as o
-use Rattle.codelist.specs.declared.LiteralRead as l
+use Rattle.codelist.specs.declared.lines.Line.{Line}
+use Rattle.codelist.specs.declared.lines.Line.the-variants.{Add, Mul, AddC, MulC, Pow, Inv}
+use Rattle.codelist.specs.declared.lines.LineRead as o
+use Rattle.codelist.specs.declared.lines.LiteralRead as l
 use Rattle.codelist.specs.declared.Numeral.{Numeral}
-use Rattle.codelist.specs.declared.NumeralRead as n
+use Rattle.codelist.specs.declared.numerals.NumeralRead as n
 use Rattle.codelist.specs.declared.PairRead as p
-use Rattle.codelist.specs.declared.Word.{Word}
-use Rattle.codelist.specs.declared.Word.the-variants as word
-use Rattle.codelist.specs.declared.WordRead as w
+use Rattle.codelist.specs.declared.lines.Word.{Word}
+use Rattle.codelist.specs.declared.lines.Word.the-variants as word
+use Rattle.codelist.specs.declared.lines.WordRead as w
 use Rattle.codelist.specs.Read.{Read, good, bad}
 use Rattle.codelist.specs.Codelist.{limit}
 

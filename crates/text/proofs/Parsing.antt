@@ -14,7 +14,7 @@ use Rattle.codelist.specs.Read.{good, numeral, peek, digit}
 use Rattle.codelist.specs.Text.{decimal, numeralText}
 use Rattle.codelist.specs.Write.{numeralOf}
 use Rattle.codelist.proofs.Checks.{value-numeral, constant-numeral}
-use Rattle.codelist.proofs.Numerals.{decimal-room, numeral-complete}
+use Rattle.codelist.proofs.NumeralTexts.{decimal-room, numeral-complete}
 use Rattle.range.specs.declared.Range.{Range}
 use Rattle.range.specs.Limit.{isValid}
 use Rattle.range.specs.Sums.{has, at}

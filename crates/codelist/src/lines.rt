@@ -1,0 +1,137 @@
+// The lines of the text (01, "The sheet"): the words that they begin with, the operation lines, and the first line.
+ghost use mathlib.Core.Path.{_≡_};
+ghost use lib.ListN.{drop};
+ghost use Rattle.codelist.specs.Read.{_or_, literal, named, keyword, operands, operationLine, firstLine};
+ghost use Rattle.codelist.specs.Views.{ofNumeral, ofLiteral, ofWord, ofLine, binaryOf};
+use super::Numeral;
+use super::PairRead;
+use super::numerals;
+use super::numerals::NumeralRead;
+
+// An operation line as it is written.
+pub(crate) enum Line {
+    Add(Numeral, Numeral),
+    Mul(Numeral, Numeral),
+    AddC(Numeral, Numeral),
+    MulC(Numeral, Numeral),
+    Pow(Numeral, Numeral),
+    Inv(Numeral),
+}
+
+// The word that an operation line begins with.
+enum Word {
+    Add,
+    Mul,
+    AddC,
+    MulC,
+    Pow,
+    Inv,
+}
+
+// What the readers find at a place of the text, each with the place after it.
+enum LiteralRead {
+    Good(usize),
+    Bad,
+}
+
+enum WordRead {
+    Good(Word, usize),
+    Bad,
+}
+
+pub(crate) enum LineRead {
+    Good(Line, usize),
+    Bad,
+}
+
+// The bytes of w.
+fn literal_at(s: &[u8], from: usize, w: &[u8]) -> LiteralRead
+    ensures { λ r. ⌜ ofLiteral (now (s .entry)) r ≡ literal (now (w .entry)) (drop from (now (s .entry))) ⌝ }
+{
+    let mut at = from;
+    let mut i = 0;
+    while i < w.len() {
+        if numerals::byte_at(s, at) != numerals::wide(w[i]) {
+            return LiteralRead::Bad;
+        }
+        at += 1;
+        i += 1;
+    }
+    LiteralRead::Good(at)
+}
+
+// The word that was found before, or else the word `name`, written w.
+fn word_or(found: WordRead, s: &[u8], at: usize, w: &[u8], name: Word) -> WordRead
+    ensures { λ r. ⌜ ofWord (now (s .entry)) r ≡ ofWord (now (s .entry)) found or named name (now (w .entry)) (drop at (now (s .entry))) ⌝ }
+{
+    match found {
+        WordRead::Good(_, _) => found,
+        WordRead::Bad => match literal_at(s, at, w) {
+            LiteralRead::Good(t) => WordRead::Good(name, t),
+            LiteralRead::Bad => WordRead::Bad,
+        },
+    }
+}
+
+// The word of an operation line, with the tab after it: no two of them begin the same text.
+fn keyword_at(s: &[u8], at: usize) -> WordRead
+    ensures { λ r. ⌜ ofWord (now (s .entry)) r ≡ keyword (drop at (now (s .entry))) ⌝ }
+{
+    let add = word_or(WordRead::Bad, s, at, b"add\t", Word::Add);
+    let mul = word_or(add, s, at, b"mul\t", Word::Mul);
+    let addc = word_or(mul, s, at, b"addc\t", Word::AddC);
+    let mulc = word_or(addc, s, at, b"mulc\t", Word::MulC);
+    let pow = word_or(mulc, s, at, b"pow\t", Word::Pow);
+    word_or(pow, s, at, b"inv\t", Word::Inv)
+}
+
+// What follows the word of an operation line.
+fn operands_at(s: &[u8], at: usize, name: Word) -> LineRead
+    ensures { λ r. ⌜ ofLine (now (s .entry)) r ≡ operands name (drop at (now (s .entry))) ⌝ }
+{
+    if let Word::Inv = name {
+        match numerals::field_at(s, at, numerals::LINE_END) {
+            NumeralRead::Good(i, t) => LineRead::Good(Line::Inv(i), t),
+            NumeralRead::Bad => LineRead::Bad,
+        }
+    } else {
+        match super::pair_at(s, at) {
+            PairRead::Good(i, x, t) => LineRead::Good(binary(name, i, x), t),
+            PairRead::Bad => LineRead::Bad,
+        }
+    }
+}
+
+// The line of a word and two numerals.
+fn binary(name: Word, i: Numeral, x: Numeral) -> Line
+    ensures { λ r. ⌜ r ≡ binaryOf name i x ⌝ }
+{
+    match name {
+        Word::Add => Line::Add(i, x),
+        Word::Mul => Line::Mul(i, x),
+        Word::AddC => Line::AddC(i, x),
+        Word::MulC => Line::MulC(i, x),
+        Word::Pow => Line::Pow(i, x),
+        Word::Inv => Line::Inv(i),
+    }
+}
+
+// An operation line of the form.
+pub(crate) fn line_at(s: &[u8], at: usize) -> LineRead
+    ensures { λ r. ⌜ ofLine (now (s .entry)) r ≡ operationLine (drop at (now (s .entry))) ⌝ }
+{
+    match keyword_at(s, at) {
+        WordRead::Good(name, t) => operands_at(s, t, name),
+        WordRead::Bad => LineRead::Bad,
+    }
+}
+
+// The first line of the form: its n.
+pub(crate) fn first_line(s: &[u8]) -> NumeralRead
+    ensures { λ r. ⌜ ofNumeral (now (s .entry)) r ≡ firstLine (now (s .entry)) ⌝ }
+{
+    match literal_at(s, 0, b"factors\t") {
+        LiteralRead::Good(t) => numerals::field_at(s, t, numerals::LINE_END),
+        LiteralRead::Bad => NumeralRead::Bad,
+    }
+}
