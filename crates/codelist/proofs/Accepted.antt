@@ -9,7 +9,7 @@ use Rattle.codelist.specs.declared.Entry.{Entry}
 use Rattle.codelist.specs.declared.Loaded.{Loaded}
 use Rattle.codelist.specs.declared.Outcome.the-variants.{Accepted, Refused}
 use Rattle.codelist.specs.declared.Refusal.{Refusal}
-use Rattle.codelist.specs.Codelist.{blank, WellFormed, Ratable}
+use Rattle.codelist.specs.Codelist.{blank, WellFormed}
 use Rattle.codelist.specs.Write.{plain, opsText, textOf}
 use Rattle.codelist.specs.Text.{firstText}
 use Rattle.codelist.specs.Load.{empty, refused, accepted, codelistOf, ended, loadOf}
@@ -99,7 +99,3 @@ refused-empty s r e = go (loadOf s) e (classify s)
     go x p (kept c q w t) = absurd (let f : Accepted ≡ Refused r = sym (ap (λ (y : Loaded). y .outcome) q)
         ∙ p in let z : _≡_ {A = ℕ} 0 1 = cc f in omega arith)
     go x p (turned-down k q u) = ap (λ (y : Loaded). y .codelist) q
-
-pub empty-not-ratable : Ratable empty → ⊥
-unfolding empty
-empty-not-ratable w = omega (arith, w .some)

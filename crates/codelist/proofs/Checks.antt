@@ -8,8 +8,8 @@ use lib.Dec.{leb}
 use lib.IntN.{ℤ, pos, negsuc, negℤ, natAbs}
 use borrow.Author.Tests.{le-leb, leb-true}
 use Rattle.codelist.specs.declared.loading.Checked.the-variants.{Fine, Fault}
-use Rattle.codelist.specs.declared.lines.Line.{Line}
-use Rattle.codelist.specs.declared.lines.Line.the-variants.{Add, Mul, AddC, MulC, Pow, Inv}
+use Rattle.codelist.specs.declared.lines.TextLine.{TextLine}
+use Rattle.codelist.specs.declared.lines.TextLine.the-variants.{Add, Mul, AddC, MulC, Pow, Inv}
 use Rattle.codelist.specs.declared.Numeral.{Numeral}
 use Rattle.codelist.specs.declared.Op.{Op}
 use Rattle.codelist.specs.declared.Op.the-variants as op
@@ -17,20 +17,20 @@ use Rattle.codelist.specs.declared.Refusal.{Refusal}
 use Rattle.codelist.specs.declared.Refusal.the-variants.{Reference, Exponent, Constant}
 use Rattle.codelist.specs.Text.{IsNumeral, HasNumerals}
 use Rattle.codelist.specs.Codelist.{limit, Earlier, WellFormedOp}
-use Rattle.codelist.specs.Write.{plain, numeralOf, lineOf}
-use Rattle.codelist.specs.Conditions.{within, refersBack, exponentFits, constantFits}
+use Rattle.codelist.specs.Write.{plain, numeralOf, textLineOf}
+use Rattle.codelist.specs.Conditions.{isBetween, refersBack, exponentFits, constantFits}
 use Rattle.codelist.specs.Load.{valueOf, opOf, checkedOf}
 use Rattle.codelist.specs.Views.{Fits}
-use Rattle.codelist.proofs.Laws.{both-true, within-inv}
+use Rattle.codelist.proofs.Laws.{both-true, between-inv}
 
-small : (low high : ℕ) (w : Numeral) → high ≤ 255 → within low high w ≡ true → w .magnitude ≤ 255
-small low high w h p = omega (arith, within-inv low high w p .2)
+small : (low high : ℕ) (w : Numeral) → high ≤ 255 → isBetween low high w ≡ true → w .magnitude ≤ 255
+small low high w h p = omega (arith, between-inv low high w p .2)
 
-pub fits : (e : ℕ) (l : Line) → e ≤ 64 → refersBack e l ≡ true → exponentFits l ≡ true → constantFits l ≡ true → Fits l
+pub fits : (e : ℕ) (l : TextLine) → e ≤ 64 → refersBack e l ≡ true → exponentFits l ≡ true → constantFits l ≡ true → Fits l
 unfolding refersBack exponentFits constantFits
-fits e (Add i j) h p q r = let b = both-true (within 1 e i) (within 1 e j) p in
+fits e (Add i j) h p q r = let b = both-true (isBetween 1 e i) (isBetween 1 e j) p in
     (small 1 e i (omega arith) (b .0), small 1 e j (omega arith) (b .1))
-fits e (Mul i j) h p q r = let b = both-true (within 1 e i) (within 1 e j) p in
+fits e (Mul i j) h p q r = let b = both-true (isBetween 1 e i) (isBetween 1 e j) p in
     (small 1 e i (omega arith) (b .0), small 1 e j (omega arith) (b .1))
 fits e (AddC i c) h p q r = (small 1 e i (omega arith) p, leb-true (c .magnitude) limit r)
 fits e (MulC i c) h p q r = (small 1 e i (omega arith) p, leb-true (c .magnitude) limit r)
@@ -78,25 +78,25 @@ constant-numeral (pos n) h = record { few = omega arith; some = λ a. absurd (fa
 constant-numeral (negsuc n) h = record { few = omega arith; some = λ _. omega arith }
 
 -- Numbers within bounds
-pub within-yes : (low high m : ℕ) → low ≤ m → m ≤ high → within low high (plain m) ≡ true
-unfolding within
-within-yes low high m p q = simp (le-leb low m p, le-leb m high q)
+pub between-yes : (low high m : ℕ) → low ≤ m → m ≤ high → isBetween low high (plain m) ≡ true
+unfolding isBetween
+between-yes low high m p q = simp (le-leb low m p, le-leb m high q)
 
 module _ (e : ℕ) where
   -- A reference: it names an earlier line, and is written as it was read
-  reference : (i : Numeral) → within 1 e i ≡ true → Earlier e (i .magnitude) × (i ≡ plain (i .magnitude))
-  reference i p = let v = within-inv 1 e i p in ((v .1, v .2), sym (plain-is i (v .0)))
+  reference : (i : Numeral) → isBetween 1 e i ≡ true → Earlier e (i .magnitude) × (i ≡ plain (i .magnitude))
+  reference i p = let v = between-inv 1 e i p in ((v .1, v .2), sym (plain-is i (v .0)))
 
-  references : (i j : Numeral) → (within 1 e i && within 1 e j) ≡ true
+  references : (i j : Numeral) → (isBetween 1 e i && isBetween 1 e j) ≡ true
       → (Earlier e (i .magnitude) × (i ≡ plain (i .magnitude))) × (Earlier e (j .magnitude) × (j ≡ plain (j .magnitude)))
-  references i j p = let b = both-true (within 1 e i) (within 1 e j) p in (reference i (b .0), reference j (b .1))
+  references i j p = let b = both-true (isBetween 1 e i) (isBetween 1 e j) p in (reference i (b .0), reference j (b .1))
 
   constant : (c : Numeral) → IsNumeral c → leb (c .magnitude) limit ≡ true → (natAbs (valueOf c) ≤ limit) × (c ≡ numeralOf (valueOf c))
   constant c f r = (subst (λ (m : ℕ). m ≤ limit) (sym (abs-value c)) (leb-true (c .magnitude) limit r), sym (numeral-value c f))
 
   -- The line of an operation that its checks let pass
-  keeps : (l : Line) → HasNumerals l → refersBack e l ≡ true → exponentFits l ≡ true → constantFits l ≡ true
-      → WellFormedOp e (opOf l) × (l ≡ lineOf (opOf l))
+  keeps : (l : TextLine) → HasNumerals l → refersBack e l ≡ true → exponentFits l ≡ true → constantFits l ≡ true
+      → WellFormedOp e (opOf l) × (l ≡ textLineOf (opOf l))
   unfolding refersBack exponentFits constantFits
   keeps (Add i j) f p q r = let ((a, x), (b, y)) = references i j p in ((a, b), λ k. Add (x k) (y k))
   keeps (Mul i j) f p q r = let ((a, x), (b, y)) = references i j p in ((a, b), λ k. Mul (x k) (y k))
@@ -104,7 +104,7 @@ module _ (e : ℕ) where
   keeps (MulC i c) f p q r = let (a, x) = reference i p in let (b, y) = constant c (f .1) r in ((a, b), λ k. MulC (x k) (y k))
   keeps (Pow i m) f p q r =
       let (a, x) = reference i p in
-      let v = within-inv 2 8 m q in
+      let v = between-inv 2 8 m q in
       let y : m ≡ plain (m .magnitude) = sym (plain-is m (v .0)) in
       ((a, (v .1, v .2)), λ k. Pow (x k) (y k))
   keeps (Inv i) f p q r = let (a, x) = reference i p in (a, λ k. Inv (x k))
@@ -114,13 +114,13 @@ pub cond-inv : {A : Type 0} (b : Bool) (x y z : A) → cond b x y ≡ z → ((b 
 cond-inv true x y z e = inl (refl, e)
 cond-inv false x y z e = inr (refl, e)
 
-pub check-sound : (p e : ℕ) (l : Line) (o : Op) → HasNumerals l → checkedOf p e l ≡ Fine o → WellFormedOp e o × (l ≡ lineOf o)
+pub check-sound : (p e : ℕ) (l : TextLine) (o : Op) → HasNumerals l → checkedOf p e l ≡ Fine o → WellFormedOp e o × (l ≡ textLineOf o)
 unfolding checkedOf
 check-sound p e l o f h =
     ⊎-elim
     (λ a. ⊎-elim
     (λ b. ⊎-elim
-    (λ c. let g : opOf l ≡ o = cc (c .1) in subst (λ (x : Op). WellFormedOp e x × (l ≡ lineOf x)) g (keeps e l f (a .0) (b .0) (c .0)))
+    (λ c. let g : opOf l ≡ o = cc (c .1) in subst (λ (x : Op). WellFormedOp e x × (l ≡ textLineOf x)) g (keeps e l f (a .0) (b .0) (c .0)))
     (λ c. faulty (Constant p) (c .1))
     (cond-inv (constantFits l) _ _ (Fine o) (b .1)))
     (λ b. faulty (Exponent p) (b .1))
@@ -132,12 +132,12 @@ check-sound p e l o f h =
     faulty r q = absurd (let z : _≡_ {A = ℕ} 0 1 = cc in omega arith)
 
 -- Which condition a fault is of
-pub data Broken (p e : ℕ) (l : Line) : Refusal → Type 0 where
+pub data Broken (p e : ℕ) (l : TextLine) : Refusal → Type 0 where
   broken-reference : refersBack e l ≡ false → Broken p e l (Reference p)
   broken-exponent : refersBack e l ≡ true → exponentFits l ≡ false → Broken p e l (Exponent p)
   broken-constant : refersBack e l ≡ true → exponentFits l ≡ true → constantFits l ≡ false → Broken p e l (Constant p)
 
-pub fault-sound : (p e : ℕ) (l : Line) (r : Refusal) → checkedOf p e l ≡ Fault r → Broken p e l r
+pub fault-sound : (p e : ℕ) (l : TextLine) (r : Refusal) → checkedOf p e l ≡ Fault r → Broken p e l r
 unfolding checkedOf
 fault-sound p e l r h =
     ⊎-elim
@@ -154,7 +154,7 @@ fault-sound p e l r h =
     told : (x : Refusal) → Broken p e l x → Fault x ≡ Fault r → Broken p e l r
     told x b q = let g : x ≡ r = cc in subst (Broken p e l) g b
 
-pub fault-complete : (p e : ℕ) (l : Line) (r : Refusal) → Broken p e l r → checkedOf p e l ≡ Fault r
+pub fault-complete : (p e : ℕ) (l : TextLine) (r : Refusal) → Broken p e l r → checkedOf p e l ≡ Fault r
 unfolding checkedOf
 fault-complete p e l r (broken-reference a) = simp a
 fault-complete p e l r (broken-exponent a b) = simp (a, b)
@@ -162,7 +162,7 @@ fault-complete p e l r (broken-constant a b c) = simp (a, b, c)
 
 -- A well formed operation is written, and passes the checks
 module _ (p e : ℕ) (small : e ≤ 64) where
-  pub writes : (o : Op) → WellFormedOp e o → HasNumerals (lineOf o)
+  pub writes : (o : Op) → WellFormedOp e o → HasNumerals (textLineOf o)
   writes (op.Add i j) (g, h) = (plain-numeral i (omega arith), plain-numeral j (omega arith))
   writes (op.Mul i j) (g, h) = (plain-numeral i (omega arith), plain-numeral j (omega arith))
   writes (op.AddC i c) (g, h) = (plain-numeral i (omega arith), constant-numeral c h)
@@ -170,17 +170,17 @@ module _ (p e : ℕ) (small : e ≤ 64) where
   writes (op.Pow i m) (g, h) = (plain-numeral i (omega arith), plain-numeral m (omega arith))
   writes (op.Inv i) g = plain-numeral i (omega arith)
 
-  earlier : (i : ℕ) → Earlier e i → within 1 e (plain i) ≡ true
-  earlier i g = within-yes 1 e i (g .0) (g .1)
+  earlier : (i : ℕ) → Earlier e i → isBetween 1 e (plain i) ≡ true
+  earlier i g = between-yes 1 e i (g .0) (g .1)
 
   constant-fits : (c : ℤ) → natAbs c ≤ limit → leb (numeralOf c .magnitude) limit ≡ true
   constant-fits c h = le-leb (numeralOf c .magnitude) limit (rw (abs-numeral c) h)
 
-  pub check-complete : (o : Op) → WellFormedOp e o → checkedOf p e (lineOf o) ≡ Fine o
+  pub check-complete : (o : Op) → WellFormedOp e o → checkedOf p e (textLineOf o) ≡ Fine o
   unfolding checkedOf refersBack exponentFits constantFits
   check-complete (op.Add i j) (g, h) = simp (earlier i g, earlier j h)
   check-complete (op.Mul i j) (g, h) = simp (earlier i g, earlier j h)
   check-complete (op.AddC i c) (g, h) = simp (earlier i g, constant-fits c h, value-numeral)
   check-complete (op.MulC i c) (g, h) = simp (earlier i g, constant-fits c h, value-numeral)
-  check-complete (op.Pow i m) (g, h) = simp (earlier i g, within-yes 2 8 m (h .0) (h .1))
+  check-complete (op.Pow i m) (g, h) = simp (earlier i g, between-yes 2 8 m (h .0) (h .1))
   check-complete (op.Inv i) g = simp (earlier i g)

@@ -12,7 +12,7 @@ use lib.Seq.{take-append-seam, drop-append-seam}
 use borrow.Author.Tests.{le-leb, lt-leb}
 use Rattle.codelist.specs.declared.Codelist.{Codelist}
 use Rattle.codelist.specs.declared.Entry.{Entry}
-use Rattle.codelist.specs.declared.lines.Line.{Line}
+use Rattle.codelist.specs.declared.lines.TextLine.{TextLine}
 use Rattle.codelist.specs.declared.Loaded.{Loaded}
 use Rattle.codelist.specs.declared.Numeral.{Numeral}
 use Rattle.codelist.specs.declared.Refusal.{Refusal}
@@ -20,12 +20,12 @@ use Rattle.codelist.specs.declared.Refusal.the-variants.{TooLong, Malfor
 use Rattle.codelist.specs.Text.{firstText, FirstAt, LineAt}
 use Rattle.codelist.specs.Codelist.{blank, WellFormedOps, WellFormed}
 use Rattle.codelist.specs.Write.{plain, opsText, textOf}
-use Rattle.codelist.specs.Conditions.{within}
+use Rattle.codelist.specs.Conditions.{isBetween}
 use Rattle.codelist.specs.Read.{Read, good, bad, operationLine, firstLine}
 use Rattle.codelist.specs.Load.{refused, accepted, codelistOf, ended, onFirst, operationLines, loadOf}
 use Rattle.codelist.specs.Refused.{Upto, RefusedFor, too-long, no-first-line, malformed, factor-count, too-many-lines, no-operation}
 use Rattle.codelist.specs.Refused.{reference, exponent, constant}
-use Rattle.codelist.proofs.Laws.{within-inv}
+use Rattle.codelist.proofs.Laws.{between-inv}
 use Rattle.codelist.proofs.NumeralTexts.{never}
 use Rattle.codelist.proofs.LineTexts.{line-sound, line-complete, first-sound, first-complete}
 use Rattle.codelist.proofs.Checks.{plain-is, Broken, broken-reference, broken-exponent, broken-constant, fault-sound}
@@ -70,7 +70,7 @@ module _ (s : List ℕ) (short : length s ≤ 4096) where
         kept (codelistOf n (x ∷ xs)) e (codelist-well-formed n (x ∷ xs) f (omega arith) (u .few) (u .each))
         (u .text ∙ ap (λ (v : List ℕ). firstText (plain n) ++ v) (append-nil (opsText (x ∷ xs))) ∙ sym (codelist-text n (x ∷ xs)))
 
-    broken : (xs : List Entry) (rest : List ℕ) (l : Line) (u : List ℕ) (r : Refusal) → Upto s n xs rest → LineAt rest l u
+    broken : (xs : List Entry) (rest : List ℕ) (l : TextLine) (u : List ℕ) (r : Refusal) → Upto s n xs rest → LineAt rest l u
         → n + length xs < 64
         → Broken (length xs + 2) (n + length xs) l r → RefusedFor s r
     broken xs rest l u r p a h (broken-reference b) = reference (record { rest = rest; upto = p; line = a; room = h }) b
@@ -90,11 +90,11 @@ module _ (s : List ℕ) (short : length s ≤ 4096) where
     traced result i = stopped (i .xs) (i .left) (i .rest) result (upto (i .xs) (i .left) (i .rest) (i .text) (i .each) (i .few))
         (i .few) (i .stop)
 
-  in-range : (w : Numeral) (t : List ℕ) → FirstAt s w t → (b : Bool) → within 1 8 w ≡ b
+  in-range : (w : Numeral) (t : List ℕ) → FirstAt s w t → (b : Bool) → isBetween 1 8 w ≡ b
       → Class s (cond b (operationLines (w .magnitude) (64 - w .magnitude) [] t) (refused FactorCount))
   in-range w t a false q = turned-down FactorCount refl (factor-count short a q)
   in-range w t a true q =
-      let v = within-inv 1 8 w q in
+      let v = between-inv 1 8 w q in
       traced (w .magnitude) (v .1, v .2) t (a .text ∙ ap (λ (x : Numeral). firstText x ++ t) (sym (plain-is w (v .0)))) _
       (trace (64 - w .magnitude) (w .magnitude) [] t)
 
@@ -102,7 +102,7 @@ module _ (s : List ℕ) (short : length s ≤ 4096) where
   at-first bad e =
       turned-down (Malformed 1) refl
       (no-first-line short (λ w t a. never w t (sym e ∙ ap firstLine (a .text) ∙ first-complete w t (a .fine))))
-  at-first (good w t) e = in-range w t (first-sound s w t e) (within 1 8 w) refl
+  at-first (good w t) e = in-range w t (first-sound s w t e) (isBetween 1 8 w) refl
 
 -- EVERY TEXT, BY WHAT LOADING MAKES OF IT
 pub classify : (s : List ℕ) → Class s (loadOf s)

@@ -19,7 +19,7 @@ use borrow.Author.Tests.{lt-ltb, le-ltb, ne-eqb, eq-eqb, leb-true}
 use Rattle.codelist.specs.declared.Numeral.{Numeral}
 use Rattle.codelist.specs.Read.{peek, rest, digit, digits, literal, good, bad}
 use Rattle.codelist.specs.Codelist.{limit}
-use Rattle.codelist.specs.Conditions.{within}
+use Rattle.codelist.specs.Conditions.{isBetween}
 
 pub peek-in : (s : List ℕ) (i : ℕ) → i < length s → peek (drop i s) ≡ getD s i 0
 unfolding peek
@@ -145,10 +145,10 @@ both-true false b e = absurd (false≢true e)
 pub both-made : (a b : Bool) → a ≡ true → b ≡ true → (a && b) ≡ true
 both-made a b p q = rw (p, q)
 
-pub within-inv : (low high : ℕ) (w : Numeral) → within low high w ≡ true → (w .negative ≡ false) × (low ≤ w .magnitude)
+pub between-inv : (low high : ℕ) (w : Numeral) → isBetween low high w ≡ true → (w .negative ≡ false) × (low ≤ w .magnitude)
     × (w .magnitude ≤ high)
-unfolding within
-within-inv low high w e = go (w .negative) refl e
+unfolding isBetween
+between-inv low high w e = go (w .negative) refl e
   where
     go : (n : Bool) → w .negative ≡ n → cond n false (leb low (w .magnitude) && leb (w .magnitude) high) ≡ true
         → (w .negative ≡ false) × (low ≤ w .magnitude) × (w .magnitude ≤ high)

@@ -6,11 +6,11 @@ use native.Mathlib.Omega.{arith}
 use lib.Dec.{ltb}
 use lib.ListN.{length, length-append}
 use Rattle.codelist.specs.declared.Entry.{Entry}
-use Rattle.codelist.specs.declared.lines.Line.{Line}
-use Rattle.codelist.specs.declared.lines.Line.the-variants.{Add, Mul, AddC, MulC, Pow, Inv}
+use Rattle.codelist.specs.declared.lines.TextLine.{TextLine}
+use Rattle.codelist.specs.declared.lines.TextLine.the-variants.{Add, Mul, AddC, MulC, Pow, Inv}
 use Rattle.codelist.specs.declared.Numeral.{Numeral}
 use Rattle.codelist.specs.Text.{decimal, numeralText, two, firstText, lineText, add→, mul→, addc→, mulc→, pow→}
-use Rattle.codelist.specs.Write.{lineOf, opsText}
+use Rattle.codelist.specs.Write.{textLineOf, opsText}
 
 either : (b : Bool) (x y : List ℕ) (n : ℕ) → length x ≤ n → length y ≤ n → length (cond b x y) ≤ n
 either true x y n p q = p
@@ -32,7 +32,7 @@ numeral-length w =
 two-length : (w : List ℕ) (i j : Numeral) → length w ≤ 5 → length (two w i j) ≤ 29
 two-length w i j h = simp length-append (omega (arith, numeral-length i, numeral-length j))
 
-line-length : (l : Line) → length (lineText l) ≤ 29
+line-length : (l : TextLine) → length (lineText l) ≤ 29
 line-length (Add i j) = two-length add→ i j (omega arith)
 line-length (Mul i j) = two-length mul→ i j (omega arith)
 line-length (AddC i c) = two-length addc→ i c (omega arith)
@@ -42,7 +42,7 @@ line-length (Inv i) = simp length-append (omega (arith, numeral-length i))
 
 ops-length : (xs : List Entry) → length (opsText xs) ≤ 29 * length xs
 ops-length [] = omega arith
-ops-length (x ∷ xs) = simp length-append (omega (arith, line-length (lineOf (x .op)), ops-length xs))
+ops-length (x ∷ xs) = simp length-append (omega (arith, line-length (textLineOf (x .op)), ops-length xs))
 
 pub text-length : (n : Numeral) (xs : List Entry) → length xs ≤ 64 → length (firstText n ++ opsText xs) ≤ 4096
 text-length n xs h = simp length-append (omega (arith, numeral-length n, ops-length xs))

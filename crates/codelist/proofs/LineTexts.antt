@@ -8,8 +8,8 @@ use native.Mathlib.Decide.{ℕ-discrete}
 use native.Mathlib.Omega.{arith}
 use lib.Dec.{ltb, eqb, lit<}
 use borrow.Author.Tests.{eq-eqb, ne-eqb, ltb-true}
-use Rattle.codelist.specs.declared.lines.Line.{Line}
-use Rattle.codelist.specs.declared.lines.Line.the-variants.{Add, Mul, AddC, MulC, Pow, Inv}
+use Rattle.codelist.specs.declared.lines.TextLine.{TextLine}
+use Rattle.codelist.specs.declared.lines.TextLine.the-variants.{Add, Mul, AddC, MulC, Pow, Inv}
 use Rattle.codelist.specs.declared.Numeral.{Numeral}
 use Rattle.codelist.specs.declared.lines.Word.{Word}
 use Rattle.codelist.specs.declared.lines.Word.the-variants as word
@@ -147,7 +147,7 @@ pair-complete i x t f g =
     simp (field-complete 9 i (numeralText x ++ (10 ∷ t)) f (omega arith), field-complete 10 x t g (omega arith))
 
 -- What follows a word: two numerals, for every word but one
-both-sound : (k : Word) (f : Numeral → Numeral → Line) (s : List ℕ) (l : Line) (t : List ℕ)
+both-sound : (k : Word) (f : Numeral → Numeral → TextLine) (s : List ℕ) (l : TextLine) (t : List ℕ)
     → ((i x : Numeral) → lineText (f i x) ≡ two (wordText k) i x) → ((i x : Numeral) → IsNumeral i → IsNumeral x → HasNumerals (f i x))
     → both f s ≡ good l t → LineAt (wordText k ++ s) l t
 both-sound k f s l t text fine e = go (next-inv (pair s) (λ p u. good (f (p .0) (p .1)) u) l t e)
@@ -157,13 +157,13 @@ both-sound k f s l t text fine e = go (next-inv (pair s) (λ p u. good (f (p .0)
         let n = pair-sound s p u a in
         let q : f (p .0) (p .1) ≡ l = cc b in
         let r : u ≡ t = cc b in
-        subst (λ (x : Line). LineAt (wordText k ++ s) x t) q
+        subst (λ (x : TextLine). LineAt (wordText k ++ s) x t) q
         (record {
           fine = fine (p .0) (p .1) (n .left) (n .right);
           text = n .text (wordText k) ∙ rw (r, text (p .0) (p .1));
         })
 
-single-sound : (s : List ℕ) (l : Line) (t : List ℕ) → next (field 10 s) (λ i u. good (Inv i) u) ≡ good l t → LineAt (inv→ ++ s) l t
+single-sound : (s : List ℕ) (l : TextLine) (t : List ℕ) → next (field 10 s) (λ i u. good (Inv i) u) ≡ good l t → LineAt (inv→ ++ s) l t
 single-sound s l t e = go (next-inv (field 10 s) (λ i u. good (Inv i) u) l t e)
   where
     go : (i : Numeral) × (u : List ℕ) × (field 10 s ≡ good i u) × (good (Inv i) u ≡ good l t) → LineAt (inv→ ++ s) l t
@@ -171,13 +171,13 @@ single-sound s l t e = go (next-inv (field 10 s) (λ i u. good (Inv i) u) l t e)
         let n = field-sound 10 s i u (lit< tt) a in
         let q : Inv i ≡ l = cc b in
         let r : u ≡ t = cc b in
-        subst (λ (x : Line). LineAt (inv→ ++ s) x t) q
+        subst (λ (x : TextLine). LineAt (inv→ ++ s) x t) q
         (record {
           fine = n .fine;
           text = ap (λ (x : List ℕ). inv→ ++ x) (n .text) ∙ rw r (simp append-assoc);
         })
 
-operands-sound : (k : Word) (s : List ℕ) (l : Line) (t : List ℕ) → operands k s ≡ good l t → LineAt (wordText k ++ s) l t
+operands-sound : (k : Word) (s : List ℕ) (l : TextLine) (t : List ℕ) → operands k s ≡ good l t → LineAt (wordText k ++ s) l t
 unfolding operands
 operands-sound word.Add s l t = both-sound word.Add Add s l t (λ i x. refl) (λ i x f g. (f, g))
 operands-sound word.Mul s l t = both-sound word.Mul Mul s l t (λ i x. refl) (λ i x f g. (f, g))
@@ -186,7 +186,7 @@ operands-sound word.MulC s l t = both-sound word.MulC MulC s l t (λ i x. refl) 
 operands-sound word.Pow s l t = both-sound word.Pow Pow s l t (λ i x. refl) (λ i x f g. (f, g))
 operands-sound word.Inv s l t = single-sound s l t
 
-pub line-sound : (s : List ℕ) (l : Line) (t : List ℕ) → operationLine s ≡ good l t → LineAt s l t
+pub line-sound : (s : List ℕ) (l : TextLine) (t : List ℕ) → operationLine s ≡ good l t → LineAt s l t
 unfolding operationLine
 line-sound s l t e = go (next-inv (keyword s) operands l t e)
   where
@@ -194,18 +194,18 @@ line-sound s l t e = go (next-inv (keyword s) operands l t e)
     go (k, u, a, b) = subst (λ (x : List ℕ). LineAt x l t) (sym (keyword-sound s k u a)) (operands-sound k u l t b)
 
 -- The other way: what is written is read
-after-word : (k : Word) (s : List ℕ) (l : Line) (t : List ℕ) → operands k s ≡ good l t → operationLine (wordText k ++ s) ≡ good l t
+after-word : (k : Word) (s : List ℕ) (l : TextLine) (t : List ℕ) → operands k s ≡ good l t → operationLine (wordText k ++ s) ≡ good l t
 unfolding operationLine
 after-word k s l t e = rw (keyword-complete k s) e
 
-two-complete : (k : Word) (f : Numeral → Numeral → Line) (i x : Numeral) (t : List ℕ) → ((s : List ℕ) → operands k s ≡ both f s)
+two-complete : (k : Word) (f : Numeral → Numeral → TextLine) (i x : Numeral) (t : List ℕ) → ((s : List ℕ) → operands k s ≡ both f s)
     → IsNumeral i → IsNumeral x → operationLine (two (wordText k) i x ++ t) ≡ good (f i x) t
 two-complete k f i x t e g h =
     simp append-assoc
     (after-word k (numeralText i ++ (9 ∷ (numeralText x ++ (10 ∷ t)))) (f i x) t
     (e (numeralText i ++ (9 ∷ (numeralText x ++ (10 ∷ t)))) ∙ rw (pair-complete i x t g h)))
 
-pub line-complete : (l : Line) (t : List ℕ) → HasNumerals l → operationLine (lineText l ++ t) ≡ good l t
+pub line-complete : (l : TextLine) (t : List ℕ) → HasNumerals l → operationLine (lineText l ++ t) ≡ good l t
 unfolding operands digit
 line-complete (Add i j) t (f, g) = two-complete word.Add Add i j t (λ s. refl) f g
 line-complete (Mul i j) t (f, g) = two-complete word.Mul Mul i j t (λ s. refl) f g

@@ -10,7 +10,7 @@ use lib.Seq.{length-take-le, take-suc-set, drop-set-lt, drop-drop}
 use Rattle.codelist.specs.declared.loading.Checked.{Checked}
 use Rattle.codelist.specs.declared.loading.Checked.the-variants.{Fine, Fault}
 use Rattle.codelist.specs.declared.Entry.{Entry}
-use Rattle.codelist.specs.declared.lines.Line.{Line}
+use Rattle.codelist.specs.declared.lines.TextLine.{TextLine}
 use Rattle.codelist.specs.declared.Op.{Op}
 use Rattle.codelist.specs.declared.Refusal.{Refusal}
 use Rattle.codelist.specs.declared.Refusal.the-variants.{Malformed, TooManyLines, NoOperation}
@@ -44,7 +44,7 @@ module _ (s : List ℕ) (from n : ℕ) (ops : List Entry) (count at : ℕ) (g : 
   taken-len = length-take-le count ops (omega arith)
 
   -- the checks, with the number of operations for the length of their list
-  checks : (l : Line) (x : Checked) → x ≡ checkedOf (count + 2) (n + count) l
+  checks : (l : TextLine) (x : Checked) → x ≡ checkedOf (count + 2) (n + count) l
       → checkedOf (length (take count ops) + 2) (n + length (take count ops)) l ≡ x
   checks l x q = rw taken-len (sym q)
 
@@ -57,7 +57,7 @@ module _ (s : List ℕ) (from n : ℕ) (ops : List Entry) (count at : ℕ) (g : 
       ap (λ (m : ℕ). refused (Malformed (m + 2))) (sym taken-len)
       ∙ sym (step-bad n (take count ops) (drop at s) (64 - (n + count)) (left-some s at h) e) ∙ g .same
 
-  module _ (l : Line) (t : List ℕ) (e : operationLine (drop at s) ≡ good l t) where
+  module _ (l : TextLine) (t : List ℕ) (e : operationLine (drop at s) ≡ good l t) where
     pub leave-full : 64 ≤ n + count → refused (TooManyLines (count + 2)) ≡ operationLines n (64 - n) [] (drop from s)
     leave-full f =
         let z : 64 - (n + count) ≡ 0 = omega arith in
@@ -73,7 +73,7 @@ module _ (s : List ℕ) (from n : ℕ) (ops : List Entry) (count at : ℕ) (g : 
         (drop from s)
     fine o f q = sym (rw (room-left f) (step-fine n (take count ops) (drop at s) l t e _ o (checks l (Fine o) q))) ∙ g .same
 
-  pub turn : (l : Line) (u : ℕ) (o : Op) → operationLine (drop at s) ≡ good l (drop u s) → n + count < 64
+  pub turn : (l : TextLine) (u : ℕ) (o : Op) → operationLine (drop at s) ≡ good l (drop u s) → n + count < 64
       → Fine o ≡ checkedOf (count + 2) (n + count) l → Going s from n (set ops count (record { op = o })) (count + 1) u
   turn l u o e f q = record {
     few = omega arith;

@@ -8,7 +8,7 @@ use lib.ListN.{length}
 use borrow.Author.Tests.{lt-leb}
 use Rattle.codelist.specs.declared.Codelist.{Codelist}
 use Rattle.codelist.specs.declared.Entry.{Entry}
-use Rattle.codelist.specs.declared.lines.Line.{Line}
+use Rattle.codelist.specs.declared.lines.TextLine.{TextLine}
 use Rattle.codelist.specs.declared.Loaded.{Loaded}
 use Rattle.codelist.specs.declared.Numeral.{Numeral}
 use Rattle.codelist.specs.declared.Outcome.the-variants.{Refused}
@@ -37,11 +37,11 @@ refused-sound s r e = go (loadOf s) e (classify s)
     go x p (turned-down k q u) = subst (RefusedFor s) (refusal-is k r (sym q ∙ p)) u
 
 -- a line that is read
-line-read : (s : List ℕ) (l : Line) (t : List ℕ) → LineAt s l t → operationLine s ≡ good l t
+line-read : (s : List ℕ) (l : TextLine) (t : List ℕ) → LineAt s l t → operationLine s ≡ good l t
 line-read s l t a = ap operationLine (a .text) ∙ line-complete l t (a .fine)
 
 -- a line of its form that breaks a condition
-breaks : (s : List ℕ) (n : ℕ) (done : List Entry) (l : Line) (t : List ℕ) (r : Refusal) → Next s n done l t
+breaks : (s : List ℕ) (n : ℕ) (done : List Entry) (l : TextLine) (t : List ℕ) (r : Refusal) → Next s n done l t
     → Broken (length done + 2) (n + length done) l r → loadOf s ≡ refused r
 breaks s n done l t r a b =
     resumed s n done (a .rest) (suc (63 - (n + length done))) (a .upto) (omega (arith, a .room))
@@ -58,7 +58,7 @@ refused-complete s r (no-first-line h none) = not-long s h ∙ go (firstLine s) 
 refused-complete s r (malformed {n} {done} {rest} u h none) =
     resumed s n done rest (64 - (n + length done)) u (omega (arith, u .few)) ∙ go (operationLine rest) refl
   where
-    go : (x : Read Line) → operationLine rest ≡ x → operationLines n (64 - (n + length done)) done rest ≡ refused
+    go : (x : Read TextLine) → operationLine rest ≡ x → operationLines n (64 - (n + length done)) done rest ≡ refused
         (Malformed (length done + 2))
     go bad e = step-bad n done rest (64 - (n + length done)) h e
     go (good l t) e = absurd (none l t (line-sound rest l t e))

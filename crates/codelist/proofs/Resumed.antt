@@ -15,7 +15,7 @@ use Rattle.codelist.specs.Read.{good, firstLine}
 use Rattle.codelist.specs.Load.{onFirst, operationLines, loadOf}
 use Rattle.codelist.specs.Refused.{Upto}
 use Rattle.codelist.proofs.LineTexts.{first-complete}
-use Rattle.codelist.proofs.Checks.{plain-numeral, within-yes}
+use Rattle.codelist.proofs.Checks.{plain-numeral, between-yes}
 use Rattle.codelist.proofs.Traces.{run}
 
 -- a text that is not too long, and one with a first line
@@ -31,6 +31,6 @@ pub resumed : (s : List ℕ) (n : ℕ) (xs : List Entry) (rest : List ℕ) (left
 resumed s n xs rest left u e =
     first-read s (plain n) (opsText xs ++ rest) (u .short)
     (record { fine = plain-numeral n (omega (arith, u .factors .1)); text = u .text })
-    ∙ rw (within-yes 1 8 n (u .factors .0) (u .factors .1))
+    ∙ rw (between-yes 1 8 n (u .factors .0) (u .factors .1))
     (run xs (64 - n) left n [] rest (omega arith) (omega (arith, u .few))
     (subst (λ (k : ℕ). WellFormedOps k xs) (sym (add-zero n)) (u .each)))

@@ -5,7 +5,7 @@ use mathlib.Core.Path.{_≡_, refl, _∙_}
 use lib.ListN.{length}
 use Rattle.codelist.specs.declared.loading.Checked.the-variants.{Fine, Fault}
 use Rattle.codelist.specs.declared.Entry.{Entry}
-use Rattle.codelist.specs.declared.lines.Line.{Line}
+use Rattle.codelist.specs.declared.lines.TextLine.{TextLine}
 use Rattle.codelist.specs.declared.Loaded.{Loaded}
 use Rattle.codelist.specs.declared.Op.{Op}
 use Rattle.codelist.specs.declared.Refusal.{Refusal}
@@ -19,7 +19,7 @@ not-nil : (s : List ℕ) (x y : Loaded) → (s ≡ [] → ⊥) → atEnd s x y �
 not-nil [] x y h = absurd (h refl)
 not-nil (b ∷ s) x y h = refl
 
-a-line : (s : List ℕ) (l : Line) (t : List ℕ) (x y : Loaded) → operationLine s ≡ good l t → atEnd s x y ≡ y
+a-line : (s : List ℕ) (l : TextLine) (t : List ℕ) (x y : Loaded) → operationLine s ≡ good l t → atEnd s x y ≡ y
 unfolding operationLine keyword named literal peek
 a-line [] l t x y e = never l t e
 a-line (b ∷ s) l t x y e = refl
@@ -36,7 +36,7 @@ module _ (n : ℕ) (ops : List Entry) where
     step-bad zero h e = not-nil s _ _ h ∙ rw e
     step-bad (suc room) h e = not-nil s _ _ h ∙ rw e
 
-    module _ (l : Line) (t : List ℕ) (e : operationLine s ≡ good l t) where
+    module _ (l : TextLine) (t : List ℕ) (e : operationLine s ≡ good l t) where
       pub step-full : operationLines n zero ops s ≡ refused (TooManyLines (length ops + 2))
       unfolding operationLines
       step-full = a-line s l t _ _ e ∙ rw e

@@ -7,14 +7,14 @@ use lib.ListN.{length, length-append}
 use Rattle.codelist.specs.declared.loading.Checked.{Checked}
 use Rattle.codelist.specs.declared.loading.Checked.the-variants.{Fine, Fault}
 use Rattle.codelist.specs.declared.Entry.{Entry}
-use Rattle.codelist.specs.declared.lines.Line.{Line}
+use Rattle.codelist.specs.declared.lines.TextLine.{TextLine}
 use Rattle.codelist.specs.declared.Loaded.{Loaded}
 use Rattle.codelist.specs.declared.Op.{Op}
 use Rattle.codelist.specs.declared.Refusal.{Refusal}
 use Rattle.codelist.specs.declared.Refusal.the-variants.{Malformed, TooManyLines}
 use Rattle.codelist.specs.Text.{lineText, LineAt}
 use Rattle.codelist.specs.Codelist.{WellFormedOps}
-use Rattle.codelist.specs.Write.{lineOf, opsText}
+use Rattle.codelist.specs.Write.{textLineOf, opsText}
 use Rattle.codelist.specs.Read.{Read, good, bad, operationLine}
 use Rattle.codelist.specs.Load.{refused, ended, onLine, onChecked, checkedOf, operationLines}
 use Rattle.codelist.proofs.LineTexts.{line-sound, line-complete}
@@ -31,7 +31,7 @@ pub run : (xs : List Entry) (room left n : ℕ) (ops : List Entry) (rest : List 
 run [] room left n ops rest e h g = let r : room ≡ left = omega arith in rw (r, append-nil ops)
 run (x ∷ xs) zero left n ops rest e h g = absurd (omega arith)
 run (x ∷ xs) (suc room) left n ops rest e h g =
-    let l = lineOf (x .op) in
+    let l = textLineOf (x .op) in
     let t = opsText xs ++ rest in
     let small : n + length ops ≤ 64 = omega arith in
     let read : operationLine (lineText l ++ t) ≡ good l t = line-complete l t (writes 0 (n + length ops) small (x .op) (g .0)) in
@@ -45,9 +45,9 @@ run (x ∷ xs) (suc room) left n ops rest e h g =
 pub data Stop (n left : ℕ) (ops : List Entry) (s : List ℕ) (result : Loaded) : Type 0 where
   at-end : s ≡ [] → result ≡ ended n ops → Stop n left ops s result
   at-bad : (s ≡ [] → ⊥) → operationLine s ≡ bad → result ≡ refused (Malformed (length ops + 2)) → Stop n left ops s result
-  at-full : left ≡ 0 → (l : Line) (t : List ℕ) → operationLine s ≡ good l t → result ≡ refused (TooManyLines (length ops + 2))
+  at-full : left ≡ 0 → (l : TextLine) (t : List ℕ) → operationLine s ≡ good l t → result ≡ refused (TooManyLines (length ops + 2))
       → Stop n left ops s result
-  at-fault : 1 ≤ left → (l : Line) (t : List ℕ) (r : Refusal) → operationLine s ≡ good l t
+  at-fault : 1 ≤ left → (l : TextLine) (t : List ℕ) (r : Refusal) → operationLine s ≡ good l t
       → checkedOf (length ops + 2) (n + length ops) l ≡ Fault r → result ≡ refused r → Stop n left ops s result
 
 -- The lines that are within the rules, from s on, and what stops the reading after them
@@ -72,7 +72,7 @@ here n room ops s result p = record {
 }
 
 -- One line, and then the others
-further : (n room : ℕ) (ops : List Entry) (s : List ℕ) (l : Line) (t : List ℕ) (o : Op) (result : Loaded) → LineAt s l t
+further : (n room : ℕ) (ops : List Entry) (s : List ℕ) (l : TextLine) (t : List ℕ) (o : Op) (result : Loaded) → LineAt s l t
     → checkedOf (length ops + 2) (n + length ops) l ≡ Fine o → Trace n room (ops ++ (record { op = o } ∷ [])) t result
     → Trace n (suc room) ops s result
 further n room ops s l t o result a f i =
@@ -82,8 +82,8 @@ further n room ops s l t o result a f i =
       xs = x ∷ i .xs;
       left = i .left;
       rest = i .rest;
-      text = a .text ∙ ap (λ (k : Line). lineText k ++ t) (c .1) ∙ ap (λ (u : List ℕ). lineText (lineOf o) ++ u) (i .text)
-          ∙ sym (append-assoc (lineText (lineOf o)) (opsText (i .xs)) (i .rest));
+      text = a .text ∙ ap (λ (k : TextLine). lineText k ++ t) (c .1) ∙ ap (λ (u : List ℕ). lineText (textLineOf o) ++ u) (i .text)
+          ∙ sym (append-assoc (lineText (textLineOf o)) (opsText (i .xs)) (i .rest));
       each = (c .0, subst (λ (m : ℕ). WellFormedOps m (i .xs)) (longer n ops x) (i .each));
       few = omega (arith, i .few);
       stop = subst (λ (ys : List Entry). Stop n (i .left) ys (i .rest) result) (append-assoc ops (x ∷ []) (i .xs)) (i .stop);
@@ -100,7 +100,7 @@ trace zero n ops (b ∷ s) = go (operationLine (b ∷ s)) refl
     p : ℕ
     p = length ops + 2
 
-    go : (x : Read Line) → operationLine (b ∷ s) ≡ x → Trace n zero ops (b ∷ s) (onLine p x (λ l t. refused (TooManyLines p)))
+    go : (x : Read TextLine) → operationLine (b ∷ s) ≡ x → Trace n zero ops (b ∷ s) (onLine p x (λ l t. refused (TooManyLines p)))
     go bad e = here n zero ops (b ∷ s) _ (at-bad (not-nil b s) e refl)
     go (good l t) e = here n zero ops (b ∷ s) _ (at-full refl l t e refl)
 trace (suc room) n ops [] = here n (suc room) ops [] _ (at-end refl refl)
@@ -115,12 +115,12 @@ trace (suc room) n ops (b ∷ s) = go (operationLine (b ∷ s)) refl (λ o t. tr
     Later : Type 0
     Later = (o : Op) (t : List ℕ) → Trace n room (ops ++ (record { op = o } ∷ [])) t (more o t)
 
-    checked : (l : Line) (t : List ℕ) → operationLine (b ∷ s) ≡ good l t → (x : Checked) → checkedOf p (n + length ops) l ≡ x → Later
+    checked : (l : TextLine) (t : List ℕ) → operationLine (b ∷ s) ≡ good l t → (x : Checked) → checkedOf p (n + length ops) l ≡ x → Later
         → Trace n (suc room) ops (b ∷ s) (onChecked x (λ o. more o t))
     checked l t e (Fault r) q ih = here n (suc room) ops (b ∷ s) _ (at-fault (omega arith) l t r e q refl)
     checked l t e (Fine o) q ih = further n room ops (b ∷ s) l t o _ (line-sound (b ∷ s) l t e) q (ih o t)
 
-    go : (x : Read Line) → operationLine (b ∷ s) ≡ x → Later
+    go : (x : Read TextLine) → operationLine (b ∷ s) ≡ x → Later
         → Trace n (suc room) ops (b ∷ s) (onLine p x (λ l t. onChecked (checkedOf p (n + length ops) l) (λ o. more o t)))
     go bad e ih = here n (suc room) ops (b ∷ s) _ (at-bad (not-nil b s) e refl)
     go (good l t) e ih = checked l t e (checkedOf p (n + length ops) l) refl ih

@@ -2,27 +2,27 @@
 use Prim.Native.Nat.{ℕ}
 use mathlib.Core.Bool.{Bool, true, false, cond, _&&_}
 use lib.Dec.{leb}
-use Rattle.codelist.specs.declared.lines.Line.{Line}
-use Rattle.codelist.specs.declared.lines.Line.the-variants.{Add, Mul, AddC, MulC, Pow, Inv}
+use Rattle.codelist.specs.declared.lines.TextLine.{TextLine}
+use Rattle.codelist.specs.declared.lines.TextLine.the-variants.{Add, Mul, AddC, MulC, Pow, Inv}
 use Rattle.codelist.specs.declared.Numeral.{Numeral}
 use Rattle.codelist.specs.Codelist.{limit}
 
 -- low ≤ w ≤ high, for bounds that are not negative
-unfoldable pub within : ℕ → ℕ → Numeral → Bool
-within low high w = cond (w .negative) false (leb low (w .magnitude) && leb (w .magnitude) high)
+unfoldable pub isBetween : ℕ → ℕ → Numeral → Bool
+isBetween low high w = cond (w .negative) false (leb low (w .magnitude) && leb (w .magnitude) high)
 
 -- 5: every reference is to one of the e codelist lines before
-unfoldable pub refersBack : ℕ → Line → Bool
-refersBack e (Add i j) = within 1 e i && within 1 e j
-refersBack e (Mul i j) = within 1 e i && within 1 e j
-refersBack e (AddC i c) = within 1 e i
-refersBack e (MulC i c) = within 1 e i
-refersBack e (Pow i m) = within 1 e i
-refersBack e (Inv i) = within 1 e i
+unfoldable pub refersBack : ℕ → TextLine → Bool
+refersBack e (Add i j) = isBetween 1 e i && isBetween 1 e j
+refersBack e (Mul i j) = isBetween 1 e i && isBetween 1 e j
+refersBack e (AddC i c) = isBetween 1 e i
+refersBack e (MulC i c) = isBetween 1 e i
+refersBack e (Pow i m) = isBetween 1 e i
+refersBack e (Inv i) = isBetween 1 e i
 
 -- 6: an exponent is 2 to 8
-unfoldable pub exponentFits : Line → Bool
-exponentFits (Pow i m) = within 2 8 m
+unfoldable pub exponentFits : TextLine → Bool
+exponentFits (Pow i m) = isBetween 2 8 m
 exponentFits (Add i j) = true
 exponentFits (Mul i j) = true
 exponentFits (AddC i c) = true
@@ -30,7 +30,7 @@ exponentFits (MulC i c) = true
 exponentFits (Inv i) = true
 
 -- 7: a constant is not beyond the limit
-unfoldable pub constantFits : Line → Bool
+unfoldable pub constantFits : TextLine → Bool
 constantFits (AddC i c) = leb (c .magnitude) limit
 constantFits (MulC i c) = leb (c .magnitude) limit
 constantFits (Add i j) = true

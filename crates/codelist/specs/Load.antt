@@ -10,8 +10,8 @@ use Rattle.codelist.specs.declared.loading.Checked.{Checked}
 use Rattle.codelist.specs.declared.loading.Checked.the-variants.{Fine, Fault}
 use Rattle.codelist.specs.declared.Codelist.{Codelist}
 use Rattle.codelist.specs.declared.Entry.{Entry}
-use Rattle.codelist.specs.declared.lines.Line.{Line}
-use Rattle.codelist.specs.declared.lines.Line.the-variants.{Add, Mul, AddC, MulC, Pow, Inv}
+use Rattle.codelist.specs.declared.lines.TextLine.{TextLine}
+use Rattle.codelist.specs.declared.lines.TextLine.the-variants.{Add, Mul, AddC, MulC, Pow, Inv}
 use Rattle.codelist.specs.declared.Loaded.{Loaded}
 use Rattle.codelist.specs.declared.Numeral.{Numeral}
 use Rattle.codelist.specs.declared.Op.{Op}
@@ -21,7 +21,7 @@ use Rattle.codelist.specs.declared.Refusal.{Refusal}
 use Rattle.codelist.specs.declared.Refusal.the-variants.{TooLong, Malformed, FactorCount, TooManyLines, NoOperation, Reference}
 use Rattle.codelist.specs.declared.Refusal.the-variants.{Exponent, Constant}
 use Rattle.codelist.specs.Codelist.{blank}
-use Rattle.codelist.specs.Conditions.{within, refersBack, exponentFits, constantFits}
+use Rattle.codelist.specs.Conditions.{isBetween, refersBack, exponentFits, constantFits}
 use Rattle.codelist.specs.Read.{Read, good, bad, operationLine, firstLine}
 
 -- 01's number and place of each refusal
@@ -68,7 +68,7 @@ unfoldable pub valueOf : Numeral → ℤ
 valueOf w = cond (w .negative) (negℤ (pos (w .magnitude))) (pos (w .magnitude))
 
 -- The operation of a line that keeps the rules
-abbrev pub opOf : Line → Op
+abbrev pub opOf : TextLine → Op
 opOf (Add i j) = op.Add (i .magnitude) (j .magnitude)
 opOf (Mul i j) = op.Mul (i .magnitude) (j .magnitude)
 opOf (AddC i c) = op.AddC (i .magnitude) (valueOf c)
@@ -81,7 +81,7 @@ abbrev pub unless : {A : Type 0} → Bool → A → A → A
 unless b x y = cond b y x
 
 -- The line at text line p, with e codelist lines before it: 5, then 6, then 7
-unfoldable pub checkedOf : ℕ → ℕ → Line → Checked
+unfoldable pub checkedOf : ℕ → ℕ → TextLine → Checked
 checkedOf p e l =
     unless (refersBack e l) (Fault (Reference p))
     (unless (exponentFits l) (Fault (Exponent p))
@@ -98,7 +98,7 @@ onChecked (Fine o) f = f o
 onChecked (Fault r) f = refused r
 
 -- What an operation line at text line p leads to: 2 where it is not of the form
-abbrev pub onLine : ℕ → Read Line → (Line → List ℕ → Loaded) → Loaded
+abbrev pub onLine : ℕ → Read TextLine → (TextLine → List ℕ → Loaded) → Loaded
 onLine p (good l s) f = f l s
 onLine p bad f = refused (Malformed p)
 
@@ -119,7 +119,7 @@ operationLines n (suc room) ops s =
 
 -- What the first line leads to
 abbrev pub onFirst : Read Numeral → Loaded
-onFirst (good w s) = unless (within 1 8 w) (refused FactorCount) (operationLines (w .magnitude) (64 - w .magnitude) [] s)
+onFirst (good w s) = unless (isBetween 1 8 w) (refused FactorCount) (operationLines (w .magnitude) (64 - w .magnitude) [] s)
 onFirst bad = refused (Malformed 1)
 
 -- LOADING

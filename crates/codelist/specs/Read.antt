@@ -3,8 +3,8 @@ use Prim.Native.Nat.{ℕ, suc, zero, _+_, _-_, _*_}
 use mathlib.Core.Bool.{Bool, true, false, cond}
 use mathlib.Core.List.{List, [], _∷_}
 use lib.Dec.{leb, ltb, eqb}
-use Rattle.codelist.specs.declared.lines.Line.{Line}
-use Rattle.codelist.specs.declared.lines.Line.the-variants.{Add, Mul, AddC, MulC, Pow, Inv}
+use Rattle.codelist.specs.declared.lines.TextLine.{TextLine}
+use Rattle.codelist.specs.declared.lines.TextLine.the-variants.{Add, Mul, AddC, MulC, Pow, Inv}
 use Rattle.codelist.specs.declared.Numeral.{Numeral}
 use Rattle.codelist.specs.declared.lines.Word.{Word}
 use Rattle.codelist.specs.declared.lines.Word.the-variants as word
@@ -84,10 +84,10 @@ unfoldable pub pair : List ℕ → Read (Numeral × Numeral)
 pair s = next (field 9 s) (λ i t. next (field 10 t) (λ x u. good (i, x) u))
 
 -- What follows the word of an operation line
-abbrev pub both : (Numeral → Numeral → Line) → List ℕ → Read Line
+abbrev pub both : (Numeral → Numeral → TextLine) → List ℕ → Read TextLine
 both f s = next (pair s) (λ p t. good (f (p .0) (p .1)) t)
 
-unfoldable pub operands : Word → List ℕ → Read Line
+unfoldable pub operands : Word → List ℕ → Read TextLine
 operands word.Add s = both Add s
 operands word.Mul s = both Mul s
 operands word.AddC s = both AddC s
@@ -96,7 +96,7 @@ operands word.Pow s = both Pow s
 operands word.Inv s = next (field 10 s) (λ i t. good (Inv i) t)
 
 -- An operation line
-unfoldable pub operationLine : List ℕ → Read Line
+unfoldable pub operationLine : List ℕ → Read TextLine
 operationLine s = next (keyword s) operands
 
 -- The first line: n

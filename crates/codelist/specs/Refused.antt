@@ -7,7 +7,7 @@ use mathlib.Core.Path.{_≡_}
 use lib.ListN.{length}
 use Rattle.codelist.specs.declared.Codelist.{Codelist}
 use Rattle.codelist.specs.declared.Entry.{Entry}
-use Rattle.codelist.specs.declared.lines.Line.{Line}
+use Rattle.codelist.specs.declared.lines.TextLine.{TextLine}
 use Rattle.codelist.specs.declared.Numeral.{Numeral}
 use Rattle.codelist.specs.declared.Refusal.{Refusal}
 use Rattle.codelist.specs.declared.Refusal.the-variants.{TooLong, Malformed, FactorCount, TooManyLines, NoOperation, Reference}
@@ -15,7 +15,7 @@ use Rattle.codelist.specs.declared.Refusal.the-variants.{Exponent, Const
 use Rattle.codelist.specs.Text.{firstText, FirstAt, LineAt}
 use Rattle.codelist.specs.Codelist.{WellFormedOps}
 use Rattle.codelist.specs.Write.{plain, opsText}
-use Rattle.codelist.specs.Conditions.{within, refersBack, exponentFits, constantFits}
+use Rattle.codelist.specs.Conditions.{isBetween, refersBack, exponentFits, constantFits}
 use Rattle.codelist.specs.Load.{accepted, refused, loadOf}
 
 -- The text s has at most 4,096 bytes, and its first lines are within the rules: n factors, and the operations done. What is left is
@@ -28,7 +28,7 @@ pub record Upto (s : List ℕ) (n : ℕ) (done : List Entry) (rest : List ℕ) :
   pub text : s ≡ firstText (plain n) ++ (opsText done ++ rest)
 
 -- The same, and next comes the operation line l, of its form and not beyond the 64th
-pub record Next (s : List ℕ) (n : ℕ) (done : List Entry) (l : Line) (t : List ℕ) : Type 0 where
+pub record Next (s : List ℕ) (n : ℕ) (done : List Entry) (l : TextLine) (t : List ℕ) : Type 0 where
   pub rest : List ℕ
   pub upto : Upto s n done rest
   pub line : LineAt rest l t
@@ -41,19 +41,19 @@ pub data RefusedFor (s : List ℕ) : Refusal → Type 0 where
   -- 2 at 1: no first line of its form; 2 at p: a further line, at text line p, that is not of its form
   no-first-line : length s ≤ 4096 → ((w : Numeral) (t : List ℕ) → FirstAt s w t → ⊥) → RefusedFor s (Malformed 1)
   malformed : {n : ℕ} {done : List Entry} {rest : List ℕ} → Upto s n done rest → (rest ≡ [] → ⊥)
-      → ((l : Line) (t : List ℕ) → LineAt rest l t → ⊥) → RefusedFor s (Malformed (length done + 2))
+      → ((l : TextLine) (t : List ℕ) → LineAt rest l t → ⊥) → RefusedFor s (Malformed (length done + 2))
   -- 3 at 1: a first line whose n is not 1 to 8
-  factor-count : {w : Numeral} {t : List ℕ} → length s ≤ 4096 → FirstAt s w t → within 1 8 w ≡ false → RefusedFor s FactorCount
+  factor-count : {w : Numeral} {t : List ℕ} → length s ≤ 4096 → FirstAt s w t → isBetween 1 8 w ≡ false → RefusedFor s FactorCount
   -- 4 at p: a line where the 64 are there already; 4 at 1: a first line alone
-  too-many-lines : {n : ℕ} {done : List Entry} {rest : List ℕ} {l : Line} {t : List ℕ} → Upto s n done rest → LineAt rest l t
+  too-many-lines : {n : ℕ} {done : List Entry} {rest : List ℕ} {l : TextLine} {t : List ℕ} → Upto s n done rest → LineAt rest l t
       → n + length done ≡ 64 → RefusedFor s (TooManyLines (length done + 2))
   no-operation : {n : ℕ} → Upto s n [] [] → RefusedFor s NoOperation
   -- 5, 6, 7 at p: a line that breaks the condition, and none of the conditions before it
-  reference : {n : ℕ} {done : List Entry} {l : Line} {t : List ℕ} → Next s n done l t
+  reference : {n : ℕ} {done : List Entry} {l : TextLine} {t : List ℕ} → Next s n done l t
       → refersBack (n + length done) l ≡ false → RefusedFor s (Reference (length done + 2))
-  exponent : {n : ℕ} {done : List Entry} {l : Line} {t : List ℕ} → Next s n done l t
+  exponent : {n : ℕ} {done : List Entry} {l : TextLine} {t : List ℕ} → Next s n done l t
       → refersBack (n + length done) l ≡ true → exponentFits l ≡ false → RefusedFor s (Exponent (length done + 2))
-  constant : {n : ℕ} {done : List Entry} {l : Line} {t : List ℕ} → Next s n done l t
+  constant : {n : ℕ} {done : List Entry} {l : TextLine} {t : List ℕ} → Next s n done l t
       → refersBack (n + length done) l ≡ true → exponentFits l ≡ true → constantFits l ≡ false → RefusedFor s (Constant (length done + 2))
 
 pub record RefusedExactly : Type 0 where

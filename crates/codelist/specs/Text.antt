@@ -4,8 +4,8 @@ use mathlib.Core.Bool.{true, cond}
 use mathlib.Core.List.{List, [], _∷_, _++_}
 use mathlib.Core.Path.{_≡_}
 use lib.Dec.{ltb}
-use Rattle.codelist.specs.declared.lines.Line.{Line}
-use Rattle.codelist.specs.declared.lines.Line.the-variants.{Add, Mul, AddC, MulC, Pow, Inv}
+use Rattle.codelist.specs.declared.lines.TextLine.{TextLine}
+use Rattle.codelist.specs.declared.lines.TextLine.the-variants.{Add, Mul, AddC, MulC, Pow, Inv}
 use Rattle.codelist.specs.declared.Numeral.{Numeral}
 
 -- The words that a line begins with, the tab (byte 9, shown → in 01) after each included
@@ -52,7 +52,7 @@ firstText n = factors→ ++ (numeralText n ++ (10 ∷ []))
 abbrev pub two : List ℕ → Numeral → Numeral → List ℕ
 two w i j = w ++ (numeralText i ++ (9 ∷ (numeralText j ++ (10 ∷ []))))
 
-abbrev pub lineText : Line → List ℕ
+abbrev pub lineText : TextLine → List ℕ
 lineText (Add i j) = two add→ i j
 lineText (Mul i j) = two mul→ i j
 lineText (AddC i c) = two addc→ i c
@@ -61,7 +61,7 @@ lineText (Pow i m) = two pow→ i m
 lineText (Inv i) = inv→ ++ (numeralText i ++ (10 ∷ []))
 
 -- Each number field of a line is a numeral, of any value
-abbrev pub HasNumerals : Line → Type 0
+abbrev pub HasNumerals : TextLine → Type 0
 HasNumerals (Add i j) = IsNumeral i × IsNumeral j
 HasNumerals (Mul i j) = IsNumeral i × IsNumeral j
 HasNumerals (AddC i c) = IsNumeral i × IsNumeral c
@@ -75,6 +75,6 @@ pub record FirstAt (s : List ℕ) (w : Numeral) (t : List ℕ) : Type 0 where
   pub text : s ≡ firstText w ++ t
 
 -- The text s is the operation line l, and then t
-pub record LineAt (s : List ℕ) (l : Line) (t : List ℕ) : Type 0 where
+pub record LineAt (s : List ℕ) (l : TextLine) (t : List ℕ) : Type 0 where
   pub fine : HasNumerals l
   pub text : s ≡ lineText l ++ t

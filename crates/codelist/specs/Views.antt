@@ -2,8 +2,8 @@
 use Prim.Native.Nat.{ℕ, _≤_}
 use mathlib.Core.List.{List}
 use lib.ListN.{drop}
-use Rattle.codelist.specs.declared.lines.Line.{Line}
-use Rattle.codelist.specs.declared.lines.Line.the-variants.{Add, Mul, AddC, MulC, Pow, Inv}
+use Rattle.codelist.specs.declared.lines.TextLine.{TextLine}
+use Rattle.codelist.specs.declared.lines.TextLine.the-variants.{Add, Mul, AddC, MulC, Pow, Inv}
 use Rattle.codelist.specs.declared.lines.LineRead as o
 use Rattle.codelist.specs.declared.lines.LiteralRead as l
 use Rattle.codelist.specs.declared.Numeral.{Numeral}
@@ -31,12 +31,12 @@ abbrev pub ofWord : List ℕ → w.WordRead → Read Word
 ofWord s (w.the-variants.Good k at) = good k (drop at s)
 ofWord s w.the-variants.Bad = bad
 
-abbrev pub ofLine : List ℕ → o.LineRead → Read Line
+abbrev pub ofLine : List ℕ → o.LineRead → Read TextLine
 ofLine s (o.the-variants.Good r at) = good r (drop at s)
 ofLine s o.the-variants.Bad = bad
 
 -- The line of a word and two numerals
-abbrev pub binaryOf : Word → Numeral → Numeral → Line
+abbrev pub binaryOf : Word → Numeral → Numeral → TextLine
 binaryOf word.Add i x = Add i x
 binaryOf word.Mul i x = Mul i x
 binaryOf word.AddC i x = AddC i x
@@ -45,7 +45,7 @@ binaryOf word.Pow i x = Pow i x
 binaryOf word.Inv i x = Inv i
 
 -- The numbers of a line fit the operation's fields
-abbrev pub Fits : Line → Type 0
+abbrev pub Fits : TextLine → Type 0
 Fits (Add i j) = (i .magnitude ≤ 255) × (j .magnitude ≤ 255)
 Fits (Mul i j) = (i .magnitude ≤ 255) × (j .magnitude ≤ 255)
 Fits (AddC i c) = (i .magnitude ≤ 255) × (c .magnitude ≤ limit)

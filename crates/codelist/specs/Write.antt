@@ -6,8 +6,8 @@ use lib.IntN.{ℤ, pos, negsuc}
 use lib.ListN.{take}
 use Rattle.codelist.specs.declared.Codelist.{Codelist}
 use Rattle.codelist.specs.declared.Entry.{Entry}
-use Rattle.codelist.specs.declared.lines.Line.{Line}
-use Rattle.codelist.specs.declared.lines.Line.the-variants.{Add, Mul, AddC, MulC, Pow, Inv}
+use Rattle.codelist.specs.declared.lines.TextLine.{TextLine}
+use Rattle.codelist.specs.declared.lines.TextLine.the-variants.{Add, Mul, AddC, MulC, Pow, Inv}
 use Rattle.codelist.specs.declared.Numeral.{Numeral}
 use Rattle.codelist.specs.declared.Op.{Op}
 use Rattle.codelist.specs.declared.Op.the-variants as op
@@ -22,17 +22,17 @@ numeralOf (pos n) = plain n
 numeralOf (negsuc n) = record { negative = true; magnitude = suc n }
 
 -- The line of an operation
-abbrev pub lineOf : Op → Line
-lineOf (op.Add i j) = Add (plain i) (plain j)
-lineOf (op.Mul i j) = Mul (plain i) (plain j)
-lineOf (op.AddC i c) = AddC (plain i) (numeralOf c)
-lineOf (op.MulC i c) = MulC (plain i) (numeralOf c)
-lineOf (op.Pow i m) = Pow (plain i) (plain m)
-lineOf (op.Inv i) = Inv (plain i)
+abbrev pub textLineOf : Op → TextLine
+textLineOf (op.Add i j) = Add (plain i) (plain j)
+textLineOf (op.Mul i j) = Mul (plain i) (plain j)
+textLineOf (op.AddC i c) = AddC (plain i) (numeralOf c)
+textLineOf (op.MulC i c) = MulC (plain i) (numeralOf c)
+textLineOf (op.Pow i m) = Pow (plain i) (plain m)
+textLineOf (op.Inv i) = Inv (plain i)
 
 abbrev pub opsText : List Entry → List ℕ
 opsText [] = []
-opsText (x ∷ xs) = lineText (lineOf (x .op)) ++ opsText xs
+opsText (x ∷ xs) = lineText (textLineOf (x .op)) ++ opsText xs
 
 -- THE TEXT OF A CODELIST: the first line, then a line for each operation
 unfoldable pub textOf : Codelist → List ℕ

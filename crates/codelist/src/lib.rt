@@ -155,7 +155,7 @@ pub fn load(bytes: &[u8]) -> Loaded
     if bytes.len() <= MOST_BYTES {
         match lines::first_line(bytes) {
             NumeralRead::Good(n, t) => {
-                if loading::is_within(1, MOST_FACTORS, n) {
+                if loading::is_between(1, MOST_FACTORS, n) {
                     loading::operation_lines(bytes, t, n.magnitude as usize)
                 } else {
                     loading::refuse(Refusal::FactorCount)

@@ -9,7 +9,7 @@ use super::numerals;
 use super::numerals::NumeralRead;
 
 // An operation line as it is written.
-pub(crate) enum Line {
+pub(crate) enum TextLine {
     Add(Numeral, Numeral),
     Mul(Numeral, Numeral),
     AddC(Numeral, Numeral),
@@ -40,7 +40,7 @@ enum WordRead {
 }
 
 pub(crate) enum LineRead {
-    Good(Line, usize),
+    Good(TextLine, usize),
     Bad,
 }
 
@@ -91,7 +91,7 @@ fn operands_at(s: &[u8], at: usize, name: Word) -> LineRead
 {
     if let Word::Inv = name {
         match numerals::field_at(s, at, numerals::LINE_END) {
-            NumeralRead::Good(i, t) => LineRead::Good(Line::Inv(i), t),
+            NumeralRead::Good(i, t) => LineRead::Good(TextLine::Inv(i), t),
             NumeralRead::Bad => LineRead::Bad,
         }
     } else {
@@ -103,16 +103,16 @@ fn operands_at(s: &[u8], at: usize, name: Word) -> LineRead
 }
 
 // The line of a word and two numerals.
-fn binary(name: Word, i: Numeral, x: Numeral) -> Line
+fn binary(name: Word, i: Numeral, x: Numeral) -> TextLine
     ensures { λ r. ⌜ r ≡ binaryOf name i x ⌝ }
 {
     match name {
-        Word::Add => Line::Add(i, x),
-        Word::Mul => Line::Mul(i, x),
-        Word::AddC => Line::AddC(i, x),
-        Word::MulC => Line::MulC(i, x),
-        Word::Pow => Line::Pow(i, x),
-        Word::Inv => Line::Inv(i),
+        Word::Add => TextLine::Add(i, x),
+        Word::Mul => TextLine::Mul(i, x),
+        Word::AddC => TextLine::AddC(i, x),
+        Word::MulC => TextLine::MulC(i, x),
+        Word::Pow => TextLine::Pow(i, x),
+        Word::Inv => TextLine::Inv(i),
     }
 }
 

@@ -4,7 +4,7 @@ ghost use mathlib.Core.List.{[]};
 ghost use Prim.Native.Nat.{_≤_, _-_};
 ghost use lib.ListN.{drop};
 ghost use Rattle.codelist.specs.Codelist.{limit};
-ghost use Rattle.codelist.specs.Conditions.{within, refersBack, exponentFits, constantFits};
+ghost use Rattle.codelist.specs.Conditions.{isBetween, refersBack, exponentFits, constantFits};
 ghost use Rattle.codelist.specs.Views.{Fits};
 ghost use Rattle.codelist.specs.Load.{refused, valueOf, opOf, checkedOf, operationLines};
 use super::Codelist;
@@ -17,8 +17,8 @@ use super::Op;
 use super::Outcome;
 use super::Refusal;
 use super::lines;
-use super::lines::Line;
 use super::lines::LineRead;
+use super::lines::TextLine;
 
 // An operation line that keeps the rules, or the refusal of one that does not.
 enum Checked {
@@ -27,8 +27,8 @@ enum Checked {
 }
 
 // low ≤ w ≤ high.
-pub(crate) fn is_within(low: u64, high: u64, w: Numeral) -> bool
-    ensures { λ r. ⌜ r ≡ within low high w ⌝ }
+pub(crate) fn is_between(low: u64, high: u64, w: Numeral) -> bool
+    ensures { λ r. ⌜ r ≡ isBetween low high w ⌝ }
 {
     if w.negative {
         return false;
@@ -41,36 +41,36 @@ pub(crate) fn is_within(low: u64, high: u64, w: Numeral) -> bool
 }
 
 // 5: every reference of a line is to one of the `earlier` codelist lines before it.
-fn refers_back(earlier: u64, line: Line) -> bool
+fn refers_back(earlier: u64, line: TextLine) -> bool
     ensures { λ r. ⌜ r ≡ refersBack earlier line ⌝ }
 {
     match line {
-        Line::Add(i, j) => is_within(1, earlier, i) & is_within(1, earlier, j),
-        Line::Mul(i, j) => is_within(1, earlier, i) & is_within(1, earlier, j),
-        Line::AddC(i, _) => is_within(1, earlier, i),
-        Line::MulC(i, _) => is_within(1, earlier, i),
-        Line::Pow(i, _) => is_within(1, earlier, i),
-        Line::Inv(i) => is_within(1, earlier, i),
+        TextLine::Add(i, j) => is_between(1, earlier, i) & is_between(1, earlier, j),
+        TextLine::Mul(i, j) => is_between(1, earlier, i) & is_between(1, earlier, j),
+        TextLine::AddC(i, _) => is_between(1, earlier, i),
+        TextLine::MulC(i, _) => is_between(1, earlier, i),
+        TextLine::Pow(i, _) => is_between(1, earlier, i),
+        TextLine::Inv(i) => is_between(1, earlier, i),
     }
 }
 
 // 6: an exponent is 2 to 8.
-fn exponent_fits(line: Line) -> bool
+fn exponent_fits(line: TextLine) -> bool
     ensures { λ r. ⌜ r ≡ exponentFits line ⌝ }
 {
     match line {
-        Line::Pow(_, m) => is_within(2, 8, m),
+        TextLine::Pow(_, m) => is_between(2, 8, m),
         _ => true,
     }
 }
 
 // 7: a constant is not beyond the limit.
-fn constant_fits(line: Line) -> bool
+fn constant_fits(line: TextLine) -> bool
     ensures { λ r. ⌜ r ≡ constantFits line ⌝ }
 {
     match line {
-        Line::AddC(_, c) => c.magnitude <= LIMIT,
-        Line::MulC(_, c) => c.magnitude <= LIMIT,
+        TextLine::AddC(_, c) => c.magnitude <= LIMIT,
+        TextLine::MulC(_, c) => c.magnitude <= LIMIT,
         _ => true,
     }
 }
@@ -93,22 +93,22 @@ fn small(w: Numeral) -> u8
 }
 
 // The operation of a line that keeps the rules.
-fn op_of(line: Line) -> Op
+fn op_of(line: TextLine) -> Op
     requires { ⌜ Fits line ⌝ }
     ensures { λ o. ⌜ o ≡ opOf line ⌝ }
 {
     match line {
-        Line::Add(i, j) => Op::Add(small(i), small(j)),
-        Line::Mul(i, j) => Op::Mul(small(i), small(j)),
-        Line::AddC(i, c) => Op::AddC(small(i), value(c)),
-        Line::MulC(i, c) => Op::MulC(small(i), value(c)),
-        Line::Pow(i, m) => Op::Pow(small(i), small(m)),
-        Line::Inv(i) => Op::Inv(small(i)),
+        TextLine::Add(i, j) => Op::Add(small(i), small(j)),
+        TextLine::Mul(i, j) => Op::Mul(small(i), small(j)),
+        TextLine::AddC(i, c) => Op::AddC(small(i), value(c)),
+        TextLine::MulC(i, c) => Op::MulC(small(i), value(c)),
+        TextLine::Pow(i, m) => Op::Pow(small(i), small(m)),
+        TextLine::Inv(i) => Op::Inv(small(i)),
     }
 }
 
 // The line at a text line, with `earlier` codelist lines before it: 5, then 6, then 7.
-fn check_line(place: u64, earlier: u64, line: Line) -> Checked
+fn check_line(place: u64, earlier: u64, line: TextLine) -> Checked
     requires { ⌜ earlier ≤ 64 ⌝ }
     ensures { λ r. ⌜ r ≡ checkedOf place earlier line ⌝ }
 {

@@ -4,7 +4,7 @@ use borrow.Author.Needs.{needs}
 use borrow.Author.Tests.{le-leb, lt-leb}
 use Rattle.codelist.specs.Load.{loadOf}
 use Rattle.codelist.specs.Views.{ofNumeral}
-use Rattle.codelist.proofs.Laws.{within-inv}
+use Rattle.codelist.proofs.Laws.{between-inv}
 use Rattle.codelist.proofs.load.Statement.{statement}
 use Rattle.codelist.proofs.load.Tie as tie
 
@@ -14,12 +14,12 @@ first-line-requires c κs = search needs
 enum-known-n : tie.Need-enum-known-n
 enum-known-n c = search needs
 
-is-within-requires : tie.Need-is-within-requires
-is-within-requires c κs = search needs
+is-between-requires : tie.Need-is-between-requires
+is-between-requires c κs = search needs
 
 operation-lines-requires : tie.Need-operation-lines-requires
-operation-lines-requires c κs = within-inv 1 8 (c .before .before .before .n .given .0 .0)
-    (sym (c .before .is-within .ensures) ∙ c .if2 .taken) .2
+operation-lines-requires c κs = between-inv 1 8 (c .before .before .before .n .given .0 .0)
+    (sym (c .before .is-between .ensures) ∙ c .if2 .taken) .2
 
 refuse-requires : tie.Need-refuse-requires
 refuse-requires c κs = search needs
@@ -44,7 +44,7 @@ returns c =
       le-leb _ _ (f .before .if1 .taken),
       sym (f .first-line .ensures)
           ∙ ap (ofNumeral (f .before .before .before .args .bytes .now)) (w .n .given .1),
-      sym (i .is-within .ensures)
+      sym (i .is-between .ensures)
           ∙ c .before .if2 .taken,
     )
 
@@ -59,7 +59,7 @@ returns-2 c =
       le-leb _ _ (f .before .if1 .taken),
       sym (f .first-line .ensures)
           ∙ ap (ofNumeral (f .before .before .before .args .bytes .now)) (w .n .given .1),
-      sym (i .is-within .ensures) ∙ c .before .if2 .left,
+      sym (i .is-between .ensures) ∙ c .before .if2 .left,
     )
 
 returns-3 : tie.Need-returns-3
@@ -83,7 +83,7 @@ load-spec =
     (tie.spec
     first-line-requires
     enum-known-n
-    is-within-requires
+    is-between-requires
     operation-lines-requires
     refuse-requires
     enum-told

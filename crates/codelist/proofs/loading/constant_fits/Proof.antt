@@ -5,15 +5,15 @@ use mathlib.Core.Path.{_≡_, refl}
 use types.Run.{OneOf, miss}
 use denote.Enum.Declared.{tagOf}
 use borrow.Author.Needs.{needs}
-use Rattle.codelist.specs.declared.lines.Line.{Line}
-use Rattle.codelist.specs.declared.lines.Line.the-variants.{Add, Mul, AddC, MulC, Pow, Inv}
+use Rattle.codelist.specs.declared.lines.TextLine.{TextLine}
+use Rattle.codelist.specs.declared.lines.TextLine.the-variants.{Add, Mul, AddC, MulC, Pow, Inv}
 use Rattle.codelist.specs.Conditions.{constantFits}
-use Rattle.codelist.proofs.lines.Line as line
+use Rattle.codelist.proofs.lines.TextLine as line
 use Rattle.codelist.proofs.loading.constant_fits.Statement.{statement}
 use Rattle.codelist.proofs.loading.constant_fits.Tie as tie
 
 -- The other lines have no constant
-other : (l : Line) → OneOf (0 ∷ 1 ∷ 4 ∷ 5 ∷ []) (tagOf line.the-type l) → true ≡ constantFits l
+other : (l : TextLine) → OneOf (0 ∷ 1 ∷ 4 ∷ 5 ∷ []) (tagOf line.the-type l) → true ≡ constantFits l
 unfolding constantFits
 other (Add i j) k = refl
 other (Mul i j) k = refl
