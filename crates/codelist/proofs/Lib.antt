@@ -1,6 +1,7 @@
 pub mod Laws
 pub mod NumeralTexts
 pub mod LineTexts
+pub mod Places
 pub mod Checks
 pub mod Lengths
 pub mod Steps

@@ -3,9 +3,12 @@ use Prim.Native.Nat.{ℕ, suc, zero, _+_, _-_, _*_}
 use mathlib.Core.Bool.{Bool, true, false, cond}
 use mathlib.Core.List.{List, [], _∷_}
 use lib.Dec.{leb, ltb, eqb}
+use lib.ListN.{length, drop}
 use Rattle.codelist.specs.declared.lines.TextLine.{TextLine}
 use Rattle.codelist.specs.declared.lines.TextLine.the-variants.{Add, Mul, AddC, MulC, Pow, Inv}
 use Rattle.codelist.specs.declared.Numeral.{Numeral}
+use Rattle.codelist.specs.declared.PairRead.{PairRead}
+use Rattle.codelist.specs.declared.PairRead.the-variants.{Good, Bad}
 use Rattle.codelist.specs.declared.lines.Word.{Word}
 use Rattle.codelist.specs.declared.lines.Word.the-variants as word
 use Rattle.codelist.specs.Text.{factors→, add→, mul→, addc→, mulc→, pow→, inv→}
@@ -82,6 +85,15 @@ keyword s =
 -- Two numerals, parted by a tab, and the line's end
 unfoldable pub pair : List ℕ → Read (Numeral × Numeral)
 pair s = next (field 9 s) (λ i t. next (field 10 t) (λ x u. good (i, x) u))
+
+-- The same at a place of the text s, with the place after the line. What is left of s there tells it by its length. Past the end of s
+-- nothing is left, so that no pair stands there.
+abbrev pub placed : List ℕ → Read (Numeral × Numeral) → PairRead
+placed s (good p t) = Good (p .0) (p .1) (length s - length t)
+placed s bad = Bad
+
+unfoldable pub pairFrom : List ℕ → ℕ → PairRead
+pairFrom s at = placed s (pair (drop at s))
 
 -- What follows the word of an operation line
 abbrev pub both : (Numeral → Numeral → TextLine) → List ℕ → Read TextLine

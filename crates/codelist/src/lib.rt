@@ -1,9 +1,7 @@
 // The codelist (01's sheet): bytes become a codelist, or one refusal with its place.
 ghost use mathlib.Core.Path.{_≡_};
-ghost use lib.ListN.{drop};
 ghost use Rattle.codelist.specs.Codelist.{wellFormedOp, ratable};
-ghost use Rattle.codelist.specs.Read.{pair};
-ghost use Rattle.codelist.specs.Views.{ofPair};
+ghost use Rattle.codelist.specs.Read.{pairFrom};
 ghost use Rattle.codelist.specs.Load.{numberOf, placeOf, empty, loadOf};
 use numerals::NumeralRead;
 
@@ -135,9 +133,9 @@ pub enum PairRead {
     Bad,
 }
 
-// Two numerals, parted by a tab, and the line's end.
+// Two numerals, parted by a tab, and the line's end, at a place of the text.
 pub fn pair_at(s: &[u8], at: usize) -> PairRead
-    ensures { λ r. ⌜ ofPair (now (s .entry)) r ≡ pair (drop at (now (s .entry))) ⌝ }
+    ensures { λ r. ⌜ r ≡ pairFrom (now (s .entry)) at ⌝ }
 {
     match numerals::field_at(s, at, numerals::TAB) {
         NumeralRead::Good(i, t) => match numerals::field_at(s, t, numerals::LINE_END) {

@@ -3,7 +3,7 @@ ghost use mathlib.Core.Path.{_≡_};
 ghost use Prim.Native.Nat.{_<_};
 ghost use lib.ListN.{drop};
 ghost use Rattle.codelist.specs.Read.{peek, digit, digits, positive, numeral, field};
-ghost use Rattle.codelist.specs.Views.{ofNumeral};
+ghost use Rattle.codelist.specs.Views.{ofNumeral, InText};
 use super::Numeral;
 
 // Bytes of the text.
@@ -112,6 +112,7 @@ fn numeral_at(s: &[u8], at: usize) -> NumeralRead
 pub(crate) fn field_at(s: &[u8], at: usize, end: u64) -> NumeralRead
     requires { ⌜ end < 256 ⌝ }
     ensures { λ r. ⌜ ofNumeral (now (s .entry)) r ≡ field end (drop at (now (s .entry))) ⌝ }
+    ensures { λ r. ⌜ InText (now (s .entry)) r ⌝ }
 {
     match numeral_at(s, at) {
         NumeralRead::Good(w, t) => {

@@ -1,8 +1,9 @@
 -- `pair_at` meets its contract: one field after another.
-use mathlib.Core.Path.{ap, sym, _∙_}
+use mathlib.Core.Path.{ap, subst, sym, _∙_}
 use borrow.Author.Needs.{needs}
-use Rattle.codelist.specs.Read.{pair}
-use Rattle.codelist.specs.Views.{ofNumeral}
+use Rattle.codelist.specs.Read.{pair, pairFrom}
+use Rattle.codelist.specs.Views.{ofNumeral, InText}
+use Rattle.codelist.proofs.Places.{place-left}
 use Rattle.codelist.proofs.pair_at.Statement.{statement}
 use Rattle.codelist.proofs.pair_at.Tie as tie
 
@@ -25,33 +26,37 @@ enum-told-2 : tie.Need-enum-told-2
 enum-told-2 c = search needs
 
 returns : tie.Need-returns
-unfolding pair
+unfolding pairFrom pair
 returns c =
     let x = c .before in
     let g = x .before .before in
     let i = g .before .before in
     let f = i .before .before in
     let s = f .before .before .args .s .now in
-    simp (sym (f .field-at .ensures) ∙ ap (ofNumeral s) (i .i .given .1), sym (g .field-at2 .ensures) ∙ ap (ofNumeral s) (x .x .given .1))
+    simp (
+      sym (f .field-at .ensures .0) ∙ ap (ofNumeral s) (i .i .given .1),
+      sym (g .field-at2 .ensures .0) ∙ ap (ofNumeral s) (x .x .given .1),
+      place-left s (x .x .given .0 .1 .0) (subst (InText s) (x .x .given .1) (g .field-at2 .ensures .1)),
+    )
 
 returns-2 : tie.Need-returns-2
-unfolding pair
+unfolding pairFrom pair
 returns-2 c =
     let g = c .before .before in
     let i = g .before .before in
     let f = i .before .before in
     let s = f .before .before .args .s .now in
     simp (
-      sym (f .field-at .ensures) ∙ ap (ofNumeral s) (i .i .given .1),
-      sym (g .field-at2 .ensures)
+      sym (f .field-at .ensures .0) ∙ ap (ofNumeral s) (i .i .given .1),
+      sym (g .field-at2 .ensures .0)
           ∙ ap (ofNumeral s) (c .enum-told .given .1),
     )
 
 returns-3 : tie.Need-returns-3
-unfolding pair
+unfolding pairFrom pair
 returns-3 c =
     let f = c .before .before in
-    simp (sym (f .field-at .ensures) ∙ ap (ofNumeral (f .before .before .args .s .now)) (c .enum-told2 .given .1))
+    simp (sym (f .field-at .ensures .0) ∙ ap (ofNumeral (f .before .before .args .s .now)) (c .enum-told2 .given .1))
 
 pub pair-at-spec : {M : Type 1} → statement M
 pair-at-spec =

@@ -1,11 +1,11 @@
 -- `text::box_lines` meets its contract: the laws of the loop (`Reading`) at each way out and each turn. Assumes nothing.
 use Prim.Native.Nat.{_-_}
-use mathlib.Core.Path.{ap, sym, _∙_}
+use mathlib.Core.Path.{sym, _∙_}
 use native.Mathlib.Omega.{arith}
 use mir.Facts.{toZ-ofZ}
 use borrow.Author.Needs.{needs}
-use Rattle.codelist.specs.Views.{ofPair}
 use Rattle.codelist.proofs.LineTexts.{pair-sound}
+use Rattle.codelist.proofs.Places.{pair-read, pair-unread}
 use Rattle.text.proofs.Reading.{Going, start, leave-full, leave-bad, leave-done, turn}
 use Rattle.text.proofs.box_lines.Statement.{statement}
 use Rattle.text.proofs.box_lines.Tie as tie
@@ -31,14 +31,14 @@ value-requires c κs =
     let r = c .before in
     let m = r .before .before in
     let s = m .before .before .before .before .before .args .s .now in
-    pair-sound _ _ _ (sym (m .pair-at .ensures) ∙ ap (ofPair s) (r .low .given .1)) .left .few
+    pair-sound _ _ _ (pair-read s _ _ _ _ (sym (m .pair-at .ensures) ∙ r .low .given .1)) .left .few
 
 value-requires-2 : tie.Need-value-requires-2 Inv-loop μ-loop
 value-requires-2 c κs =
     let r = c .before .before in
     let m = r .before .before in
     let s = m .before .before .before .before .before .args .s .now in
-    pair-sound _ _ _ (sym (m .pair-at .ensures) ∙ ap (ofPair s) (r .low .given .1)) .right .few
+    pair-sound _ _ _ (pair-read s _ _ _ _ (sym (m .pair-at .ensures) ∙ r .low .given .1)) .right .few
 
 loop-again : tie.Need-loop-again Inv-loop μ-loop
 loop-again c =
@@ -49,7 +49,7 @@ loop-again c =
     let a = l .before .before .args in
     let s = a .s .now in
     turn s (a .from) (l .loop .ends) (l .loop .count) (l .loop .at) (l .loop .inv) _ _ _ _ _ (f .before .loop-test .taken) (f .if1 .left)
-    (sym (m .pair-at .ensures) ∙ ap (ofPair s) (r .low .given .1))
+    (pair-read s _ _ _ _ (sym (m .pair-at .ensures) ∙ r .low .given .1))
     (toZ-ofZ (search needs) ∙ c .before .value .ensures) (toZ-ofZ (search needs) ∙ c .value2 .ensures)
 
 returns-2 : tie.Need-returns-2 Inv-loop μ-loop
@@ -60,7 +60,7 @@ returns-2 c =
     let a = l .before .before .args in
     let s = a .s .now in (
       leave-bad s (a .from) (l .loop .ends) (l .loop .count) (l .loop .at) (l .loop .inv) (f .before .loop-test .taken) (f .if1 .left)
-          (sym (m .pair-at .ensures) ∙ ap (ofPair s) (c .enum-told .given .1)),
+          (pair-unread s _ (sym (m .pair-at .ensures) ∙ c .enum-told .given .1)),
       search needs,
     )
 

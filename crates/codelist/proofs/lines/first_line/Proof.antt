@@ -26,7 +26,7 @@ unfolding firstLine
 returns c =
     let m = c .before .before in
     let f = m .before .before in
-    c .field-at .ensures ∙ simp (sym (f .literal-at .ensures) ∙ ap (ofLiteral (f .before .before .before .args .s .now)) (m .t .given .1))
+    c .field-at .ensures .0 ∙ simp (sym (f .literal-at .ensures) ∙ ap (ofLiteral (f .before .before .before .args .s .now)) (m .t .given .1))
 
 returns-2 : tie.Need-returns-2
 unfolding firstLine

@@ -8,7 +8,8 @@ use borrow.Author.Needs.{needs}
 use Rattle.codelist.specs.declared.lines.Word.{Word}
 use Rattle.codelist.specs.declared.lines.Word.the-variants as word
 use Rattle.codelist.specs.Read.{good, next, pair, operands}
-use Rattle.codelist.specs.Views.{ofNumeral, ofPair, binaryOf}
+use Rattle.codelist.specs.Views.{ofNumeral, binaryOf}
+use Rattle.codelist.proofs.Places.{pair-read, pair-unread}
 use Rattle.codelist.proofs.lines.Word as words
 use Rattle.codelist.proofs.lines.operands_at.Statement.{statement}
 use Rattle.codelist.proofs.lines.operands_at.Tie as tie
@@ -55,7 +56,7 @@ returns c =
     let f = m .before .before in
     simp (
       f .before .enum-told .given .1,
-      sym (f .field-at .ensures) ∙ ap (ofNumeral (f .before .before .before .before .args .s .now))
+      sym (f .field-at .ensures .0) ∙ ap (ofNumeral (f .before .before .before .before .args .s .now))
           (m .i .given .1),
     )
 
@@ -65,7 +66,7 @@ returns-2 c =
     let f = c .before .before in
     simp (
       f .before .enum-told .given .1,
-      sym (f .field-at .ensures) ∙ ap (ofNumeral (f .before .before .before .before .args .s .now))
+      sym (f .field-at .ensures .0) ∙ ap (ofNumeral (f .before .before .before .before .args .s .now))
           (c .enum-told2 .given .1),
     )
 
@@ -75,14 +76,14 @@ returns-3 c =
     let f = m .before .before in
     let a = f .before .before .before .args in
     sym (two-operands (a .name) _ (f .before .match .keys2)
-    ∙ simp (sym (f .pair-at .ensures) ∙ ap (ofPair (a .s .now)) (m .i2 .given .1), c .binary .ensures))
+    ∙ simp (pair-read (a .s .now) (a .at) _ _ _ (sym (f .pair-at .ensures) ∙ m .i2 .given .1), c .binary .ensures))
 
 returns-4 : tie.Need-returns-4
 returns-4 c =
     let f = c .before .before in
     let a = f .before .before .before .args in
     sym (two-operands (a .name) _ (f .before .match .keys2)
-    ∙ simp (sym (f .pair-at .ensures) ∙ ap (ofPair (a .s .now)) (c .enum-told3 .given .1)))
+    ∙ simp (pair-unread (a .s .now) (a .at) (sym (f .pair-at .ensures) ∙ c .enum-told3 .given .1)))
 
 pub operands-at-spec : {M : Type 1} → statement M
 operands-at-spec =
