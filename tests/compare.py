@@ -2,12 +2,13 @@
 """Compares the program `rate` with the rules of paper 01 over unlimited whole numbers and exact fractions (tests/reference).
 
 tests/compare.py --binary PATH [--seed N] [--count N]
-    the figures of 01, the examples and random inputs: every printed byte; for a share of the accepted random ones also the exact
-    premium and its derivatives, as fractions, at a point inside the ranges
+    the figures of 01, the examples, inputs that two refusals fit, and random ones: every printed byte; for a share of the accepted random
+    ones also the exact premium and its derivatives, as fractions, at a point inside the ranges
 tests/compare.py --self-test VECTORS
     the reference alone against a file of vectors, one JSON object a line with "input" (hex) and "expected"
 
-Fails, too, where a rule, a refusal or a wrong rule of errors.py was never met. The same seed gives the same inputs.
+Fails, too, where a rule, a refusal, a wrong rule of errors.py or an order of two refusals (orders.py) was never met. The same seed gives the
+same inputs.
 """
 import argparse
 import json
@@ -20,6 +21,7 @@ from pathlib import Path
 from errors import ERRORS, STEPS, uncounted
 from figures import FIGURES
 from generate import case
+from orders import ORDERS, cases, orders_of
 from reference.exact import TooLarge, broken_promises
 from reference.outcome import Refusal
 from reference.ranges import Range
@@ -30,6 +32,7 @@ EXAMPLES = Path(__file__).resolve().parent.parent / "examples"
 DIFFERENCES_SHOWN = 5
 TIMES_CAUGHT = 3  # a wrong rule is no longer tried once it was told from the right one this often
 EXACT_SHARE = 0.5
+ORDER_ROUNDS = 3  # inputs for each order
 
 # Refusal 10 is not among them: the program loads a sheet before it rates.
 RULES = [
@@ -96,6 +99,8 @@ class Comparison:
             self.note_result(outcome)
             if rng is not None and rng.random() < EXACT_SHARE:
                 complaint += self.exact_complaint(outcome, rng)
+        else:
+            complaint += self.note_orders(text, outcome.answer)
         self.try_errors(text, outcome, ours)
         if complaint:
             self.report(name, text, complaint)
@@ -118,6 +123,12 @@ class Comparison:
             self.given_up += 1
             return ""
         return "".join(f"--- does not hold of the reference's result: {what}\n" for what in broken)
+
+    def note_orders(self, text, refusal):
+        """Which other refusals the input would fit, but for the order; the first condition that holds must be the refusal's."""
+        orders, agreed = orders_of(text, refusal)
+        self.met.update(orders)
+        return "" if agreed else "--- the first condition that holds is not the refusal's\n"
 
     def note_result(self, outcome):
         sheet, _, result = outcome
@@ -145,9 +156,12 @@ class Comparison:
         """Prints the rules with how often each was met, and the count; whether all is well."""
         for rule in RULES:
             print(f"{self.met[rule]:9}  {rule}")
+        for kind in dict.fromkeys(order.split(":")[0] for order in ORDERS):
+            counts = [self.met[order] for order in ORDERS if order.split(":")[0] == kind]
+            print(f"{min(counts):9}  {kind}: the least often met of {len(counts)}")
         print(f"{self.given_up:9}  points given up: the fractions grew too long")
-        unknown = set(self.met) - set(RULES)
-        missed = [rule for rule in RULES if not self.met[rule]]
+        unknown = set(self.met) - set(RULES) - set(ORDERS)
+        missed = [rule for rule in RULES + ORDERS if not self.met[rule]]
         missed += [f"told from the right rules: {wrong.__doc__}" for wrong in ERRORS if not self.caught[wrong]]
         missed += [f"not in the list of rules: {rule}" for rule in sorted(unknown)]
         for rule in missed:
@@ -189,6 +203,9 @@ def main():
         comparison.compare(f"figure '{name}'", text, expected)
     for example in sorted(EXAMPLES.glob("*.in")):
         comparison.compare(f"example '{example.stem}'", example.read_bytes(), example.with_suffix(".out").read_bytes())
+    for number in range(ORDER_ROUNDS):
+        for name, text in cases(random.Random(f"{arguments.seed}/order/{number}")):
+            comparison.compare(f"'{name}', {number}", text)
     for number in range(arguments.count):
         rng = random.Random(f"{arguments.seed}/{number}")
         kind, text = case(rng)
