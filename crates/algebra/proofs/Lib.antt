@@ -1,5 +1,5 @@
 -- The laws of rings and ordered rings, the solver of ring identities (`Solver.ring`, over `Poly`), linear arithmetic (`Linear.linarith`,
--- over `Search`), sums, Cauchy–Schwarz and quadratic forms. A module passes on the definitions of specs/ that its laws are about.
+-- over `Search`), sums, Cauchy–Schwarz and quadratic forms; the integers, which are an ordered ring, and fractions of them. A module passes on the definitions of specs/ that its laws are about.
 pub mod Ring
 pub mod Poly
 pub mod Solver
@@ -10,4 +10,6 @@ pub mod Sum
 pub mod Vectors
 pub mod Form
 pub mod Restricted
+pub mod Int
+pub mod Frac
 mod Examples

@@ -165,7 +165,7 @@ module _ {R : Type 0} (𝓞 : OrderedRing R) where
 
   -- ── powers
   pub pow-nonneg : {x : R} (n : ℕ) → 𝟘 ≤ x → 𝟘 ≤ Ring.pow 𝓡 x n
-  unfolding Ring.pow
+  unfolding Ring.power
   pow-nonneg zero p = zero-le-one
   pow-nonneg (suc n) p = mul-nonneg p (pow-nonneg n p)
 

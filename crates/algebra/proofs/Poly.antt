@@ -253,7 +253,7 @@ module _ {R : Type 0} (𝓡 : CommRing R) where
   val-num n ρ = ap (num n +_) (ap neg num-zero ∙ Ring.neg-zero 𝓡) ∙ add-zero (num n)
 
   pub val-pow : (p : Poly) (n : ℕ) (ρ : List R) → val (powP p n) ρ ≡ Ring.pow 𝓡 (val p ρ) n
-  unfolding Ring.pow
+  unfolding Ring.power
   val-pow p zero ρ = val-num 1 ρ ∙ Ring.num-one 𝓡
   val-pow p (suc n) ρ = val-mul p (powP p n) ρ ∙ ap (val p ρ *_) (val-pow p n ρ)
 

@@ -2,8 +2,8 @@
 use mathlib.Core.Path.{_≡_, sym, _∙_, ap, ap₂}
 use Prim.Native.Nat.{ℕ, zero, suc, _+_ as _+ᴺ_, _*_ as _*ᴺ_}
 use native.Mathlib.Nat as NatL
-pub use Rattle.algebra.specs.Ring.{CommRing}
-unfoldable pub use Rattle.algebra.specs.Ring.{pow}
+pub use Rattle.algebra.specs.Ring.{CommRing, pow}
+unfoldable pub use Rattle.algebra.specs.Ring.{power}
 
 module _ {R : Type 0} (𝓡 : CommRing R) where
   infixl 65 _+_

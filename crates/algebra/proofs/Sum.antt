@@ -8,7 +8,8 @@ use Rattle.algebra.proofs.Ring as Ring
 use Rattle.algebra.proofs.Ring.{CommRing}
 use Rattle.algebra.proofs.Ordered as Ord
 use Rattle.algebra.proofs.Ordered.{OrderedRing}
-unfoldable pub use Rattle.algebra.specs.Sum.{sum}
+pub use Rattle.algebra.specs.Sum.{sum}
+unfoldable pub use Rattle.algebra.specs.Sum.{sumBelow}
 
 module _ {R : Type 0} (𝓡 : CommRing R) where
   infixl 65 _+_
@@ -17,28 +18,28 @@ module _ {R : Type 0} (𝓡 : CommRing R) where
 
   -- the summands below n decide
   pub sum-ext : (n : ℕ) {f g : ℕ → R} → ((a : ℕ) → a < n → f a ≡ g a) → sum 𝓡 n f ≡ sum 𝓡 n g
-  unfolding sum
+  unfolding sumBelow
   sum-ext zero e = refl
   sum-ext (suc n) e = ap₂ _+_ (e n (N.lt-suc-self n)) (sum-ext n (λ a h. e a (omega arith)))
 
   pub sum-zero : (n : ℕ) {f : ℕ → R} → ((a : ℕ) → a < n → f a ≡ 𝟘) → sum 𝓡 n f ≡ 𝟘
-  unfolding sum
+  unfolding sumBelow
   sum-zero zero e = refl
   sum-zero (suc n) e = ap₂ _+_ (e n (N.lt-suc-self n)) (sum-zero n (λ a h. e a (omega arith))) ∙ 𝓡 .add-zero 𝟘
 
   pub sum-add : (n : ℕ) (f g : ℕ → R) → sum 𝓡 n (λ a. f a + g a) ≡ sum 𝓡 n f + sum 𝓡 n g
-  unfolding sum
+  unfolding sumBelow
   sum-add zero f g = sym (𝓡 .add-zero 𝟘)
   sum-add (suc n) f g = ap (f n + g n +_) (sum-add n f g) ∙ Ring.interchange 𝓡 (f n) (g n) (sum 𝓡 n f) (sum 𝓡 n g)
 
   pub sum-scale : (n : ℕ) (k : R) (f : ℕ → R) → sum 𝓡 n (λ a. k * f a) ≡ k * sum 𝓡 n f
-  unfolding sum
+  unfolding sumBelow
   sum-scale zero k f = sym (Ring.mul-zero 𝓡 k)
   sum-scale (suc n) k f = ap (k * f n +_) (sum-scale n k f) ∙ sym (𝓡 .mul-add k (f n) (sum 𝓡 n f))
 
   -- one summand that may differ from 0
   pub sum-only : (n : ℕ) {k : ℕ} {f : ℕ → R} → k < n → ((a : ℕ) → a < n → ¬ (a ≡ k) → f a ≡ 𝟘) → sum 𝓡 n f ≡ f k
-  unfolding sum
+  unfolding sumBelow
   sum-only zero h e = let f : ⊥ = omega arith in absurd f
   sum-only (suc n) {k} {f} h e = go (ℕ-discrete n k) (λ l. sum-only n l (λ a m. e a (omega arith)))
     where
@@ -48,7 +49,7 @@ module _ {R : Type 0} (𝓡 : CommRing R) where
 
   -- summands that are 0 from n on
   pub sum-longer : (n m : ℕ) {f : ℕ → R} → n ≤ m → ((a : ℕ) → n ≤ a → f a ≡ 𝟘) → sum 𝓡 m f ≡ sum 𝓡 n f
-  unfolding sum
+  unfolding sumBelow
   sum-longer n zero {f} h e = let p : 0 ≡ n = omega arith in ap (λ k. sum 𝓡 k f) p
   sum-longer n (suc m) {f} h e = go (ℕ-discrete (suc m) n) (λ l. sum-longer n m l e)
     where
@@ -62,7 +63,7 @@ module _ {R : Type 0} (𝓞 : OrderedRing R) where
   open CommRing (𝓞 .commRing) using (𝟘)
 
   pub sum-mono : (n : ℕ) {f g : ℕ → R} → ((a : ℕ) → a < n → f a ≤ᴿ g a) → sum 𝓡 n f ≤ᴿ sum 𝓡 n g
-  unfolding sum
+  unfolding sumBelow
   sum-mono zero h = le-refl 𝟘
   sum-mono (suc n) h = Ord.add-mono 𝓞 (h n (N.lt-suc-self n)) (sum-mono n (λ a l. h a (omega arith)))
 

@@ -6,7 +6,7 @@ use Rattle.algebra.proofs.Solver.{lit, _:+_, _:*_, _:-_, :-_, _:=_, rin
 use Rattle.algebra.proofs.Ordered as Ord
 use Rattle.algebra.proofs.Ordered.{OrderedRing}
 use Rattle.algebra.proofs.Sum as Sum
-use Rattle.algebra.proofs.Sum.{sum}
+use Rattle.algebra.proofs.Sum.{sum, sumBelow}
 unfoldable pub use Rattle.algebra.specs.Vectors.{dot}
 
 module _ {R : Type 0} (𝓡 : CommRing R) where
@@ -58,7 +58,7 @@ module _ {R : Type 0} (𝓞 : OrderedRing R) where
 
   -- Cauchy–Schwarz. With a coordinate more, the difference of the sides grows by the square of x·v − y·u
   pub cauchy-schwarz : (n : ℕ) (u v : ℕ → R) → dot 𝓡 n u v * dot 𝓡 n u v ≤ dot 𝓡 n u u * dot 𝓡 n v v
-  unfolding dot sum
+  unfolding dot sumBelow
   cauchy-schwarz zero u v = le-refl (𝟘 * 𝟘)
   cauchy-schwarz (suc n) u v =
       let x = u n in

@@ -22,8 +22,10 @@ pub record CommRing (R : Type 0) : Type 0 where
   pub num-zero : num zero ≡ 𝟘
   pub num-suc : (n : ℕ) → num (suc n) ≡ add (num n) 𝟙
 
-module _ {R : Type 0} (𝓡 : CommRing R) where
-  -- x · x · .. · x, n times
-  unfoldable pub pow : R → ℕ → R
-  pow x zero = 𝓡 .𝟙
-  pow x (suc n) = 𝓡 .mul x (pow x n)
+-- x · x · .. · x, n times, from a one and a product; and in a ring
+unfoldable pub power : {R : Type 0} → R → (R → R → R) → R → ℕ → R
+power 𝟙 mul x zero = 𝟙
+power 𝟙 mul x (suc n) = mul x (power 𝟙 mul x n)
+
+abbrev pub pow : {R : Type 0} → CommRing R → R → ℕ → R
+pow 𝓡 x n = power (𝓡 .𝟙) (𝓡 .mul) x n

@@ -4,7 +4,7 @@ use mathlib.Core.Bool.{Bool, true, false, _&&_, false≢true}
 use mathlib.Core.Logic.{inr}
 use lib.IntN.{ℤ, negℤ, _*ℤ_, negℤ-negℤ}
 use lib.Signed.{_≤ℤ_}
-use Rattle.exact.specs.Int.{neg-*ℤ, neg-anti, ≤ℤ-antisym}
+use Rattle.algebra.proofs.Int.{neg-*ℤ, neg-anti, ≤ℤ-antisym}
 use Rattle.exact.specs.Div.{floorDiv, ceilDiv}
 use Rattle.range.specs.declared.Range.{Range}
 use Rattle.range.specs.Limit.{fromTo, over, isValid, bothValid, kept}

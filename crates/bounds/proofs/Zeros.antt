@@ -4,11 +4,11 @@ use mathlib.Core.Bool.{true, false}
 use Prim.Native.Nat.{ℕ, _≤_}
 use lib.IntN.{ℤ, pos, negsuc, natAbs, *ℤ-zero}
 use lib.Signed.{_≤ℤ_, ≤ℤ-refl}
+use Rattle.algebra.proofs.Int.{ints}
 use Rattle.range.specs.declared.Range.{Range}
 use Rattle.range.specs.Limit.{least, most, fromTo, zeroRange, over, isValid, bothValid, kept}
 use Rattle.range.specs.Arithmetic.{sumOf, negOf, endsTimes, timesOf, endsProduct, productOf}
 use Rattle.range.proofs.Valid.{T-true, true-T, valid-of, sticky₁-is, sticky₂-is}
-use Rattle.exact.specs.Int.{ints}
 use Rattle.exact.specs.Div.{floorDiv, ceilDiv}
 use Rattle.bounds.proofs.Validity.{zero-valid}
 

@@ -1,15 +1,47 @@
 -- The laws of rounded division.
 use mathlib.Core.Path.{_≡_, refl, sym, _∙_, ap}
 use mathlib.Core.Logic.{_↔_, _⊎_, inl, inr, ⊎-elim}
-use Prim.Native.Nat.{ℕ, zero, suc, _*_, _<_}
+use Prim.Native.Nat.{ℕ, zero, suc, _*_, _/_, _<_}
 use native.Mathlib.Nat as N
-use lib.IntN.{ℤ, pos, negsuc, negℤ, _*ℤ_, zero-*ℤ}
+use lib.IntN.{ℤ, pos, negsuc, negℤ, _+ℤ_, _*ℤ_, zero-*ℤ}
 use lib.Signed.{_≤ℤ_, _<ℤ_, ≤ℤ-refl}
 use Rattle.algebra.proofs.Ordered as Ord
-use Rattle.exact.specs.Int.{ints, ℤ-ordered, mul-dif, <-pos}
-use Rattle.exact.specs.Int.{neg-≤, ≤-neg, *ℤ-neg, *ℤ-assoc, *ℤ-mono, *ℤ-cancel, neg-*ℤ, ≤ℤ-trans, ≡-below, ≤ℤ-or-<ℤ}
+use Rattle.algebra.proofs.Solver.{:1, _:+_, _:*_, _:=_, ring}
+use Rattle.algebra.proofs.Int.{ints, ℤ-ring, ℤ-ordered, posPart-neg, negPart-neg, add-dif, mul-dif, mul-pos-dif, <-pos}
+use Rattle.algebra.proofs.Int.{neg-≤, ≤-neg, neg-anti, neg-cancel, neg-*ℤ, *ℤ-neg, *ℤ-assoc, *ℤ-mono, *ℤ-cancel, *ℤ-cancel-<}
+use Rattle.algebra.proofs.Int.{≤ℤ-trans, ≤ℤ-<ℤ-trans, <suc→≤ℤ, ≡-below, ≤ℤ-or-<ℤ}
 unfoldable pub use Rattle.exact.specs.Div.{floorDiv, ceilDiv, floorQuot, ceilQuot}
-pub use Rattle.exact.specs.Div.{bySign, floor-le, floor-lt, floor-iff, ceil-iff}
+pub use Rattle.exact.specs.Div.{bySign}
+
+-- ════ the laws that determine the quotients ════
+
+-- the quotient times the divisor is at most a, and that of the next integer is more
+pub floor-le : (a : ℤ) {d : ℕ} → zero < d → (floorDiv a d *ℤ pos d) ≤ℤ a
+unfolding floorDiv
+floor-le (pos n) {d} p = omega (ints, N.div-mul-le-self n d)
+floor-le (negsuc n) {d} p =
+    omega (ints, posPart-neg (pos (suc (n / d) * d)), negPart-neg (pos (suc (n / d) * d)), N.lt-div-mul-add {a = n} p)
+
+floor-lt′ : (a : ℤ) {d : ℕ} → zero < d → a <ℤ (floorDiv a d *ℤ pos d +ℤ pos d)
+unfolding floorDiv
+floor-lt′ (pos n) {d} p = omega (ints, N.lt-div-mul-add {a = n} p)
+floor-lt′ (negsuc n) {d} p = omega (ints, add-dif (negsuc (n / d) *ℤ pos d) (pos d), mul-pos-dif (negsuc (n / d)) d, N.div-mul-le-self n d)
+
+pub floor-lt : (a : ℤ) {d : ℕ} → zero < d → a <ℤ ((floorDiv a d +ℤ pos 1) *ℤ pos d)
+floor-lt a {d} p = rw (ring ℤ-ring 2 (λ q d. (q :+ :1) :* d := q :* d :+ d) tt (floorDiv a d) (pos d)) (floor-lt′ a p)
+
+pub floor-iff : (q a : ℤ) {d : ℕ} → zero < d → (q ≤ℤ floorDiv a d) ↔ ((q *ℤ pos d) ≤ℤ a)
+floor-iff q a {d} p = (λ h. ≤ℤ-trans (*ℤ-mono d h) (floor-le a p), λ h. <suc→≤ℤ (*ℤ-cancel-< d (≤ℤ-<ℤ-trans h (floor-lt a p))))
+
+pub ceil-iff : (q a : ℤ) {d : ℕ} → zero < d → (ceilDiv a d ≤ℤ q) ↔ (a ≤ℤ (q *ℤ pos d))
+unfolding ceilDiv
+ceil-iff q a {d} p = (λ h. from (floor-iff (negℤ q) (negℤ a) p .0 (neg-≤ h)), λ h. neg-≤ (floor-iff (negℤ q) (negℤ a) p .1 (to h)))
+  where
+    from : (negℤ q *ℤ pos d) ≤ℤ negℤ a → a ≤ℤ (q *ℤ pos d)
+    from h = neg-cancel (rw neg-*ℤ at h)
+
+    to : a ≤ℤ (q *ℤ pos d) → (negℤ q *ℤ pos d) ≤ℤ negℤ a
+    to h = rw neg-*ℤ (neg-anti h)
 
 pub floor-mono : {a b : ℤ} {d : ℕ} → zero < d → a ≤ℤ b → floorDiv a d ≤ℤ floorDiv b d
 floor-mono {a} {b} p h = floor-iff _ b p .1 (≤ℤ-trans (floor-le a p) h)

@@ -2,6 +2,5 @@
 pub mod Div
 pub mod Machine
 pub mod Sqrt
-pub mod Frac
 pub mod Rat
 pub mod Units

@@ -12,7 +12,7 @@ use lib.Signed.{leZ, ltZ, ltZ-no, mag, quotZ, _≤ℤ_, _<ℤ_}
 use mir.Syntax.{Width, w64}
 use mir.Val.{SFits, hbits, ofZ}
 use mir.ValLaws.{sfits-le}
-use Rattle.exact.specs.Int.{ints, posPart, negPart, ≤-out, ≤-in, <-out, <-in, leZ-no}
+use Rattle.algebra.proofs.Int.{ints, posPart, negPart, ≤-out, ≤-in, <-out, <-in, leZ-no}
 use Rattle.exact.proofs.Div.{floorDiv, ceilDiv}
 
 -- ---- tests, as code makes them

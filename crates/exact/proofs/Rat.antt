@@ -17,13 +17,12 @@ use Rattle.algebra.proofs.Ordered as Ord
 use Rattle.algebra.proofs.Ordered.{OrderedRing}
 use Rattle.algebra.proofs.Solver.{_:+_, _:*_, _:-_, :-_, _:=_, ring}
 use Rattle.algebra.proofs.Linear.{_:≤_, _:≡_, _⇒_, ⊢_, linarith}
-use Rattle.exact.specs.Int.{ints, mul-pos-dif, ℤ-ring, *ℤ-one, *ℤ-assoc, ≤ℤ-antisym, <ℤ→≤ℤ, leZ-no}
-use Rattle.exact.specs.Frac as F
-use Rattle.exact.specs.Frac.{Frac, Frac-setoid, _≃_, _≼_, whole}
-use Rattle.exact.proofs.Frac as L
-use Rattle.exact.specs.Rat.{mk, mkᵒ, sound, timesᵒ}
-pub use Rattle.exact.specs.Rat.{ℚ, ℚ-set, 0ℚ, 1ℚ, _-ℚ_, _≤ℚ_, _<ℚ_, Recip}
-unfoldable pub use Rattle.exact.specs.Rat.{ratio, fromℤ, _+ℚ_, _*ℚ_, negℚ, leQ, recip, _÷_}
+use Rattle.algebra.proofs.Int.{ints, mul-pos-dif, ℤ-ring, *ℤ-one, *ℤ-assoc, ≤ℤ-antisym, <ℤ→≤ℤ, leZ-no}
+use Rattle.algebra.proofs.Frac as F
+use Rattle.algebra.proofs.Frac.{Frac, _≃_, _≼_, whole}
+use Rattle.exact.specs.Rat.{Frac-setoid, mk, mkᵒ, sound}
+pub use Rattle.exact.specs.Rat.{ℚ, ℚ-set, 0ℚ, 1ℚ, _-ℚ_, _^ℚ_, sumℚ, _≤ℚ_, _<ℚ_, Recip}
+unfoldable pub use Rattle.exact.specs.Rat.{ratio, fromℤ, _+ℚ_, _*ℚ_, negℚ, leQ, recip}
 
 -- equal numbers are equal fractions
 exact : {x y : Frac} → mk x ≡ mk y → x ≃ y
@@ -47,15 +46,15 @@ unfolding _+ℚ_
 
 pub +ℚ-assoc : (x y z : ℚ) → (x +ℚ y) +ℚ z ≡ x +ℚ (y +ℚ z)
 unfolding _+ℚ_
-+ℚ-assoc = ≡₃ _ _ (λ a b c. sound (L.add-assoc a b c))
++ℚ-assoc = ≡₃ _ _ (λ a b c. sound (F.add-assoc a b c))
 
 pub +ℚ-zero : (x : ℚ) → x +ℚ 0ℚ ≡ x
 unfolding _+ℚ_ fromℤ
-+ℚ-zero = ≡₁ _ _ (λ a. sound (L.add-zero a))
++ℚ-zero = ≡₁ _ _ (λ a. sound (F.add-zero a))
 
 pub +ℚ-neg : (x : ℚ) → x -ℚ x ≡ 0ℚ
 unfolding _+ℚ_ fromℤ negℚ
-+ℚ-neg = ≡₁ _ _ (λ a. sound (L.add-neg a))
++ℚ-neg = ≡₁ _ _ (λ a. sound (F.add-neg a))
 
 pub *ℚ-comm : (x y : ℚ) → x *ℚ y ≡ y *ℚ x
 unfolding _*ℚ_
@@ -63,15 +62,15 @@ unfolding _*ℚ_
 
 pub *ℚ-assoc : (x y z : ℚ) → (x *ℚ y) *ℚ z ≡ x *ℚ (y *ℚ z)
 unfolding _*ℚ_
-*ℚ-assoc = ≡₃ _ _ (λ a b c. sound (L.mul-assoc a b c))
+*ℚ-assoc = ≡₃ _ _ (λ a b c. sound (F.mul-assoc a b c))
 
 pub *ℚ-one : (x : ℚ) → x *ℚ 1ℚ ≡ x
 unfolding _*ℚ_ fromℤ
-*ℚ-one = ≡₁ _ _ (λ a. sound (L.mul-one a))
+*ℚ-one = ≡₁ _ _ (λ a. sound (F.mul-one a))
 
 pub *ℚ-dist : (x y z : ℚ) → (x +ℚ y) *ℚ z ≡ x *ℚ z +ℚ y *ℚ z
 unfolding _+ℚ_ _*ℚ_
-*ℚ-dist = ≡₃ _ _ (λ a b c. sound (L.mul-dist a b c))
+*ℚ-dist = ≡₃ _ _ (λ a b c. sound (F.mul-dist a b c))
 
 pub *ℚ-distˡ : (x y z : ℚ) → x *ℚ (y +ℚ z) ≡ x *ℚ y +ℚ x *ℚ z
 *ℚ-distˡ x y z = *ℚ-comm x (y +ℚ z) ∙ *ℚ-dist y z x ∙ ap₂ _+ℚ_ (*ℚ-comm y x) (*ℚ-comm z x)
@@ -189,7 +188,7 @@ unfolding _+ℚ_
 +ℚ-monoʳ {x} {y} z = prop₃ (λ x y z. x ≤ℚ y → x +ℚ z ≤ℚ y +ℚ z) (λ x y z. →-prop (≤ℚ-prop (x +ℚ z) (y +ℚ z))) at-frac x y z
   where
     at-frac : (a b c : Frac) → mk a ≤ℚ mk b → mk a +ℚ mk c ≤ℚ mk b +ℚ mk c
-    at-frac a b c h = ≤-mk (L.add-mono a b c (≤-frac a b h))
+    at-frac a b c h = ≤-mk (F.add-mono a b c (≤-frac a b h))
 
 pub *ℚ-monoʳ : {x y : ℚ} (z : ℚ) → 0ℚ ≤ℚ z → x ≤ℚ y → x *ℚ z ≤ℚ y *ℚ z
 unfolding _*ℚ_ fromℤ
@@ -197,7 +196,7 @@ unfolding _*ℚ_ fromℤ
     prop₃ (λ x y z. 0ℚ ≤ℚ z → x ≤ℚ y → x *ℚ z ≤ℚ y *ℚ z) (λ x y z. →-prop (→-prop (≤ℚ-prop (x *ℚ z) (y *ℚ z)))) at-frac x y z
   where
     at-frac : (a b c : Frac) → 0ℚ ≤ℚ mk c → mk a ≤ℚ mk b → mk a *ℚ mk c ≤ℚ mk b *ℚ mk c
-    at-frac a b c p h = ≤-mk (L.mul-mono a b c (≤-frac (whole (pos 0)) c p) (≤-frac a b h))
+    at-frac a b c p h = ≤-mk (F.mul-mono a b c (≤-frac (whole (pos 0)) c p) (≤-frac a b h))
 
 pub *ℚ-nonneg : {x y : ℚ} → 0ℚ ≤ℚ x → 0ℚ ≤ℚ y → 0ℚ ≤ℚ x *ℚ y
 *ℚ-nonneg {x} {y} h k = rw zero-*ℚ at (*ℚ-monoʳ y k h)
@@ -214,9 +213,9 @@ Recip-prop x (some y) = ℚ-set (x *ℚ y) 1ℚ
 
 pub recip-law : (x : ℚ) → Recip x (recip x)
 unfolding recip _*ℚ_ fromℤ
-recip-law = ind (λ x. Recip-prop x (recip x)) (λ a. at-frac a (F.over a) (L.over-law a))
+recip-law = ind (λ x. Recip-prop x (recip x)) (λ a. at-frac a (F.inverted a) (F.inverted-law a))
   where
-    at-frac : (a : Frac) (o : Option Frac) → L.Flipped a o → Recip (mk a) (mkᵒ o)
+    at-frac : (a : Frac) (o : Option Frac) → F.Flipped a o → Recip (mk a) (mkᵒ o)
     at-frac a none h = sound h
     at-frac a (some b) h = sound h
 
@@ -355,6 +354,15 @@ unfolding fromℤ negℚ
 fromℤ-neg a = refl
 
 -- ════ division ════
+
+abbrev pub timesᵒ : ℚ → Option ℚ → Option ℚ
+timesᵒ x none = none
+timesᵒ x (some z) = some (x *ℚ z)
+
+-- x ÷ y has no value at y = 0, and else is the one number whose product with y is x (`÷-zero`, `÷-some`, `÷-mul`)
+infixl 7 _÷_
+unfoldable pub _÷_ : ℚ → ℚ → Option ℚ
+x ÷ y = timesᵒ x (recip y)
 
 pub ÷-zero : (x : ℚ) → x ÷ 0ℚ ≡ none
 unfolding _÷_

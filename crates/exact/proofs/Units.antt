@@ -2,27 +2,56 @@
 use mathlib.Core.Path.{_≡_, refl, sym, _∙_, ap}
 use mathlib.Core.Logic.{_↔_, inl, inr, ⊎-elim}
 use mathlib.Core.Option.{some}
-use mathlib.Core.Quot.{ind}
+use mathlib.Core.Quot.{Quot·lift, ind}
 use mathlib.Core.HLevel.{×-prop, →-prop}
 use Prim.Native.Nat.{ℕ, zero, suc, _*_, _<_}
 use native.Mathlib.Nat as N
 use lib.Dec.{lit<}
-use lib.IntN.{ℤ, pos, negsuc, negℤ, _+ℤ_, _*ℤ_, negℤ-negℤ}
+use lib.IntN.{ℤ, pos, negsuc, negℤ, _+ℤ_, _*ℤ_, ℤ-set, negℤ-negℤ}
 use lib.Signed.{_≤ℤ_, _<ℤ_, clashℤ}
 use Rattle.algebra.proofs.Ordered as Ord
 use Rattle.algebra.proofs.Solver.{_:*_, :-_, _:=_, ring}
-use Rattle.algebra.proofs.Sum.{sum}
-use Rattle.exact.specs.Int.{ints, ℤ-ring, mul-pos-dif, neg-dif, neg-≤, neg-*ℤ, *ℤ-mono, ≤ℤ-of-≡, ≤ℤ-prop, ≡-below, ≡-above}
+use Rattle.algebra.proofs.Sum.{sum, sumBelow}
+use Rattle.algebra.proofs.Int.{ints, ℤ-ring, mul-pos-dif, neg-dif, neg-≤, neg-*ℤ, *ℤ-one, *ℤ-mono, ≤ℤ-of-≡, ≤ℤ-prop, ≡-below, ≡-above}
+use Rattle.algebra.proofs.Frac.{Frac, _≃_, _≼_, whole, ≼-trans, ≼-of-≃, ≃-sym}
 use Rattle.exact.proofs.Div.{floorDiv, ceilDiv, bySign, floorQuot, ceilQuot, floor-iff, ceil-iff, floor-mono, ceil-mono}
 use Rattle.exact.proofs.Div.{floor-cancel, ceil-cancel, OneSign}
-use Rattle.exact.specs.Frac.{whole}
 use Rattle.exact.proofs.Rat as Q
 use Rattle.exact.proofs.Rat.{ℚ, fromℤ, ratio, negℚ, _+ℚ_, _*ℚ_, _≤ℚ_, _<ℚ_, leQ, 0ℚ, 1ℚ, _÷_, ℚ-ring, ℚ-ordered, ≤-mk, ≤-frac}
 use Rattle.exact.proofs.Rat.{ratio-≤, ratio-≡, ratio-+same, ratio-*, ratio-neg, ratio-÷, ratio-times, quotient}
 use Rattle.exact.proofs.Rat.{fromℤ-is, fromℤ-neg, negℚ-anti}
-use Rattle.exact.specs.Units.{floorF-iff, floorℚ, ceilℚ}
 pub use Rattle.exact.specs.Units.{scale, scale-pos, In}
-unfoldable pub use Rattle.exact.specs.Units.{units, down, up}
+unfoldable pub use Rattle.exact.specs.Units.{units}
+
+-- ════ rounding ════
+
+-- of a fraction, rounded down; equal fractions have the same
+abbrev pub floorF : Frac → ℤ
+floorF x = floorDiv (x .num) (x .den)
+
+pub floorF-iff : (q : ℤ) (x : Frac) → (q ≤ℤ floorF x) ↔ (whole q ≼ x)
+floorF-iff q x = rw (*ℤ-one (x .num)) (floor-iff q (x .num) (x .den-pos))
+
+pub floorF-cong : {x y : Frac} → x ≃ y → floorF x ≡ floorF y
+floorF-cong {x} {y} p = ≡-below (λ q. (
+  λ h. floorF-iff q y .1 (≼-trans (whole q) x y (floorF-iff q x .0 h) (≼-of-≃ x y p)),
+  λ h. floorF-iff q x .1 (≼-trans (whole q) y x (floorF-iff q y .0 h) (≼-of-≃ y x (≃-sym p))),
+))
+
+-- the greatest integer that is at most x
+unfoldable pub floorℚ : ℚ → ℤ
+floorℚ x = Quot·lift ℤ-set floorF (λ a b p. floorF-cong p) x
+
+-- the least integer that is at least x
+unfoldable pub ceilℚ : ℚ → ℤ
+ceilℚ x = negℤ (floorℚ (negℚ x))
+
+-- the greatest number of units that is at most x, and the least that is at least x (`down-iff`, `up-iff`)
+unfoldable pub down : ℚ → ℤ
+down x = floorℚ (x *ℚ fromℤ (pos scale))
+
+unfoldable pub up : ℚ → ℤ
+up x = ceilℚ (x *ℚ fromℤ (pos scale))
 
 -- ════ to an integer ════
 
@@ -122,7 +151,7 @@ unfolding units
 units-times k u = sym (ap (λ z. z *ℚ units u) (fromℤ-is (pos k)) ∙ ratio-* (pos k) u _ _ ∙ ratio-≡ _ _ _ _ .1 refl)
 
 pub sum-units : (n : ℕ) (f : ℕ → ℤ) → units (sum ℤ-ring n f) ≡ sum ℚ-ring n (λ a. units (f a))
-unfolding sum
+unfolding sumBelow
 sum-units zero f = units-0
 sum-units (suc n) f = sym (units-+ (f n) (sum ℤ-ring n f)) ∙ ap (units (f n) +ℚ_) (sum-units n f)
 

@@ -1,15 +1,21 @@
 -- The rational numbers ℚ: fractions of integers, with equal ones identified, so that equality is `≡`; operations, order, reciprocal.
+-- An operation on ℚ is that on fractions, together with the proof that equal fractions give equal results (algebra's proofs/Frac.antt).
 -- A closed term computes where its operations unfold: `unfolding ratio _+ℚ_ leQ`. proofs/Rat proves that ℚ is an ordered field.
-use mathlib.Core.Path.{_≡_, refl, ap}
-use mathlib.Core.Bool.{Bool, true, false, not, Bool-set}
+use mathlib.Core.Path.{_≡_, ap}
+use mathlib.Core.Bool.{Bool, not, Bool-set}
 use mathlib.Core.Option.{Option, none, some, Option·isSet}
-use mathlib.Core.Quot.{Quot·mk, Quot·sound, Quot-set, Quot·lift, Quotient, Quotient·lift₂}
+use mathlib.Core.Quot.{Setoid, Quot·mk, Quot·sound, Quot-set, Quot·lift, Quotient, Quotient·lift₂}
 use Prim.Native.Nat.{ℕ, zero, _<_}
 use lib.Dec.{T}
-use lib.IntN.{ℤ, pos, _*ℤ_}
-use lib.Signed.{leZ}
-use Rattle.exact.specs.Frac as F
-use Rattle.exact.specs.Frac.{Frac, Frac-setoid, _≃_, whole, dℤ}
+use lib.IntN.{ℤ, pos}
+use Rattle.algebra.specs.Ring.{power}
+use Rattle.algebra.specs.Sum.{sumBelow}
+use Rattle.algebra.specs.Frac as F
+use Rattle.algebra.specs.Frac.{Frac, _≃_, whole}
+use Rattle.algebra.proofs.Frac as L
+
+abbrev pub Frac-setoid : Setoid {0, 0} Frac
+Frac-setoid = record { r = _≃_; iseqv = L.≃-equivalence }
 
 abbrev pub ℚ : Type 0
 ℚ = Quotient Frac-setoid
@@ -37,14 +43,14 @@ infixl 6 _+ℚ_ _-ℚ_
 infixl 7 _*ℚ_
 unfoldable pub _+ℚ_ : ℚ → ℚ → ℚ
 unfolding Quotient·lift₂
-x +ℚ y = Quotient·lift₂ Frac-setoid Frac-setoid Quot-set (λ a b. mk (F.add a b)) (λ a b c d p q. sound (F.add-cong p q)) x y
+x +ℚ y = Quotient·lift₂ Frac-setoid Frac-setoid Quot-set (λ a b. mk (F.add a b)) (λ a b c d p q. sound (L.add-cong p q)) x y
 
 unfoldable pub _*ℚ_ : ℚ → ℚ → ℚ
 unfolding Quotient·lift₂
-x *ℚ y = Quotient·lift₂ Frac-setoid Frac-setoid Quot-set (λ a b. mk (F.mul a b)) (λ a b c d p q. sound (F.mul-cong p q)) x y
+x *ℚ y = Quotient·lift₂ Frac-setoid Frac-setoid Quot-set (λ a b. mk (F.mul a b)) (λ a b c d p q. sound (L.mul-cong p q)) x y
 
 unfoldable pub negℚ : ℚ → ℚ
-negℚ x = Quot·lift Quot-set (λ a. mk (F.neg a)) (λ a b p. sound (F.neg-cong p)) x
+negℚ x = Quot·lift Quot-set (λ a. mk (F.neg a)) (λ a b p. sound (L.neg-cong p)) x
 
 abbrev pub _-ℚ_ : ℚ → ℚ → ℚ
 x -ℚ y = x +ℚ negℚ y
@@ -55,24 +61,21 @@ abbrev pub 0ℚ : ℚ
 abbrev pub 1ℚ : ℚ
 1ℚ = fromℤ (pos 1)
 
+-- x · x · .. · x, e times; x ^ℚ 0 is 1
+infixr 80 _^ℚ_
+abbrev pub _^ℚ_ : ℚ → ℕ → ℚ
+x ^ℚ e = power 1ℚ _*ℚ_ x e
+
+-- f 0 + .. + f (n − 1)
+abbrev pub sumℚ : ℕ → (ℕ → ℚ) → ℚ
+sumℚ n f = sumBelow 0ℚ _+ℚ_ n f
+
 -- ════ the order ════
-
-bool-ext : (b c : Bool) → (T b → T c) → (T c → T b) → b ≡ c
-bool-ext true true f g = refl
-bool-ext true false f g = absurd (f tt)
-bool-ext false true f g = absurd (g tt)
-bool-ext false false f g = refl
-
-pub leF-cong : (a b c d : Frac) → a ≃ c → b ≃ d → leZ (a .num *ℤ dℤ b) (b .num *ℤ dℤ a) ≡ leZ (c .num *ℤ dℤ d) (d .num *ℤ dℤ c)
-leF-cong a b c d p q =
-    bool-ext _ _
-    (λ t. F.≼-cong a c b d p q (record { le = t }) .le)
-    (λ t. F.≼-cong c a d b (F.≃-sym p) (F.≃-sym q) (record { le = t }) .le)
 
 -- the test of x ≤ y, and the two orders that it decides: a/d ≤ b/e where a·e ≤ b·d
 unfoldable pub leQ : ℚ → ℚ → Bool
 unfolding Quotient·lift₂
-leQ x y = Quotient·lift₂ Frac-setoid Frac-setoid Bool-set (λ a b. leZ (a .num *ℤ dℤ b) (b .num *ℤ dℤ a)) leF-cong x y
+leQ x y = Quotient·lift₂ Frac-setoid Frac-setoid Bool-set F.leF L.leF-cong x y
 
 infix 4 _≤ℚ_ _<ℚ_
 pub record _≤ℚ_ (x y : ℚ) : Type 0 where
@@ -87,26 +90,11 @@ abbrev pub mkᵒ : Option Frac → Option ℚ
 mkᵒ none = none
 mkᵒ (some a) = some (mk a)
 
-pub mkᵒ-cong : (o p : Option Frac) → F._≃ᵒ_ o p → mkᵒ o ≡ mkᵒ p
-mkᵒ-cong none none h = refl
-mkᵒ-cong none (some b) h = absurd h
-mkᵒ-cong (some a) none h = absurd h
-mkᵒ-cong (some a) (some b) h = ap some (sound h)
-
 -- 1/x, which has no value at 0
 unfoldable pub recip : ℚ → Option ℚ
-recip x = Quot·lift (Option·isSet ℚ-set) (λ a. mkᵒ (F.over a)) (λ a b p. mkᵒ-cong (F.over a) (F.over b) (F.over-cong p)) x
+recip x = Quot·lift (Option·isSet ℚ-set) (λ a. mkᵒ (F.inverted a)) (L.inverted-cong mkᵒ (λ a b p. ap some (sound p))) x
 
 -- what it is, as `recip-law` proves: no value says that x is 0, and a value y that x * y is 1
 abbrev pub Recip : ℚ → Option ℚ → Type 0
 Recip x none = x ≡ 0ℚ
 Recip x (some y) = x *ℚ y ≡ 1ℚ
-
-abbrev pub timesᵒ : ℚ → Option ℚ → Option ℚ
-timesᵒ x none = none
-timesᵒ x (some z) = some (x *ℚ z)
-
--- x ÷ y has no value at y = 0, and else is the one number whose product with y is x (`÷-zero`, `÷-some`, `÷-mul`)
-infixl 7 _÷_
-unfoldable pub _÷_ : ℚ → ℚ → Option ℚ
-x ÷ y = timesᵒ x (recip y)

@@ -9,7 +9,7 @@ use lib.Dec.{T}
 use lib.IntN.{ℤ, pos, negℤ, _*ℤ_}
 use lib.Signed.{leZ, _≤ℤ_, _<ℤ_, leZ-yes, ≤ℤ-refl}
 use Rattle.algebra.proofs.Ordered as Ord
-use Rattle.exact.specs.Int.{ints, ℤ-ordered, neg-dif, neg-nonneg, leZ-no, <ℤ→≤ℤ, ≤ℤ-trans, ≤ℤ-antisym}
+use Rattle.algebra.proofs.Int.{ints, ℤ-ordered, neg-dif, neg-nonneg, leZ-no, <ℤ→≤ℤ, ≤ℤ-trans, ≤ℤ-antisym}
 use Rattle.exact.proofs.Div.{floorDiv, ceilDiv}
 use Rattle.range.specs.declared.Range.{Range}
 use Rattle.range.specs.Limit.{fromTo, least, most, over, isValid, bothValid, kept, sticky₂}

@@ -6,7 +6,7 @@ use Prim.Native.Nat.{ℕ, zero, suc, zero-le}
 use lib.Dec.{T}
 use lib.IntN.{ℤ, pos, _-ℤ_}
 use lib.Signed.{_≤ℤ_}
-use Rattle.exact.specs.Int.{ints, posPart, negPart, sub-dif, pos-≤}
+use Rattle.algebra.proofs.Int.{ints, posPart, negPart, sub-dif, pos-≤}
 use Rattle.range.specs.declared.Range.{Range}
 use Rattle.range.specs.Limit.{fromTo, most, isValid}
 use Rattle.range.specs.Arithmetic.{endsSum, endsNeg, endsTimes, endsProduct, endsInverse, endsHull}

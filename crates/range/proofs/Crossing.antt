@@ -10,12 +10,12 @@ use borrow.Author.Tests.{eq-eqb, ne-eqb}
 use lib.Dec.{T}
 use lib.IntN.{ℤ, pos, negsuc, negℤ, natAbs, _*ℤ_}
 use lib.Signed.{leZ}
-use Rattle.exact.specs.Int.{ℤ-ring, ℤ-ordered, neg-abs, mul-abs}
+use Rattle.algebra.proofs.Int.{ℤ-ring, ℤ-ordered, neg-abs, mul-abs}
 use Rattle.exact.proofs.Div.{floorDiv, ceilDiv}
 use Rattle.range.specs.declared.Range.{Range}
 use Rattle.range.specs.Limit.{fromTo, zeroRange, over, isValid, bothValid, kept}
 use Rattle.range.specs.Arithmetic.{leastProduct, greatestProduct, endsSum, sumOf, endsProduct}
-use Rattle.range.specs.Sums.{has, sumOver, at, validBelow, validOver, endsProducts, productsOf}
+use Rattle.range.specs.Sums.{has, sumOver, sumOverℤ, at, validBelow, validOver, endsProducts, productsOf}
 use Rattle.range.specs.Sums.{largestSquare, squareSum, endsSquares, squaresOf, rootSum, rootOf}
 use Rattle.range.specs.Steps.{upTo, aroundRoot}
 use Rattle.range.proofs.Valid.{true-T, not-true, and-left, and-right, both-valid}
@@ -121,7 +121,7 @@ module _ (s : ℕ) (g : List Range) where
       unfolding squareSum
       squared-is =
           summed-end s _ total rest a (i .summed) z
-          ∙ ap (λ (l : ℤ). fromTo l (sumOver ℤ-ring s (λ a. largestSquare (at g a)))) (sumOver-zero ℤ-ordered s)
+          ∙ ap (λ (l : ℤ). fromTo l (sumOverℤ s (λ a. largestSquare (at g a)))) (sumOver-zero ℤ-ordered s)
 
       pub squared-sign : leZ (pos 0) (total .high) ≡ true
       squared-sign = ap (λ (r : Range). leZ (pos 0) (r .high)) squared-is ∙ squareSum-sign s g

@@ -4,7 +4,7 @@ use mathlib.Core.Bool.{true}
 use lib.IntN.{ℤ, pos, _*ℤ_}
 use lib.Signed.{leZ, _≤ℤ_, leZ-yes, ≤ℤ-refl}
 use Rattle.algebra.proofs.Ordered as Ord
-use Rattle.exact.specs.Int.{ℤ-ordered, leZ-no, <ℤ→≤ℤ, ≤ℤ-trans, ≤ℤ-antisym}
+use Rattle.algebra.proofs.Int.{ℤ-ordered, leZ-no, <ℤ→≤ℤ, ≤ℤ-trans, ≤ℤ-antisym}
 use Rattle.range.specs.declared.Range.{Range}
 use Rattle.range.specs.Limit.{fromTo, isValid}
 use Rattle.range.specs.Arithmetic.{lesserOf, greaterOf, leastOf, greatestOf, leastProduct, greatestProduct, spreadOf}

@@ -11,7 +11,7 @@ use lib.Signed.{leZ, nonNeg, _≤ℤ_}
 use mir.Syntax.{w8, w32, w64}
 use mir.Val.{Fits, SFits, toZ, ofZ}
 use mir.ValLaws.{toZ-ofZ, toZ-pos}
-use Rattle.exact.specs.Int.{ints, neg-dif, neg-abs, add-abs, mul-abs}
+use Rattle.algebra.proofs.Int.{ints, neg-dif, neg-abs, add-abs, mul-abs}
 use Rattle.exact.proofs.Machine.{fits-abs}
 use Rattle.range.specs.declared.Range.{Range}
 use Rattle.range.specs.Limit.{least, most, fromTo, over, isValid, bothValid, kept}

@@ -11,9 +11,9 @@ use lib.Signed.{leZ, _≤ℤ_, leZ-yes, ≤ℤ-refl}
 use Rattle.algebra.proofs.Ring as Ring
 use Rattle.algebra.proofs.Ordered as Ord
 use Rattle.algebra.proofs.Solver.{_:*_, :-_, _:=_, ring}
-use Rattle.exact.specs.Int.{neg-nonneg, neg-nonpos, leZ-no, <ℤ→≤ℤ}
+use Rattle.algebra.proofs.Int.{neg-nonneg, neg-nonpos, leZ-no, <ℤ→≤ℤ}
 use Rattle.exact.proofs.Rat as Q
-use Rattle.exact.proofs.Rat.{ℚ, _*ℚ_, negℚ, _≤ℚ_, 0ℚ}
+use Rattle.exact.proofs.Rat.{ℚ, _*ℚ_, _^ℚ_, negℚ, _≤ℚ_, 0ℚ}
 use Rattle.exact.proofs.Units.{units}
 use Rattle.exact.proofs.Rat.{ℚ-ring, ℚ-ordered}
 use Rattle.range.specs.declared.Range.{Range}
@@ -21,7 +21,7 @@ use Rattle.range.specs.Limit.{isValid}
 use Rattle.range.specs.Arithmetic.{greaterOf}
 use Rattle.range.specs.Power.{chain, D, U, upsWithin, isEven, powAbove, powBelow}
 use Rattle.range.specs.Power.{powAcrossEven, powAcrossOdd, powAcross, powBySign, powOf}
-use Rattle.range.specs.Inclusion.{_∈_, _^_}
+use Rattle.range.specs.Inclusion.{_∈_}
 use Rattle.range.proofs.Extremes.{greater-left, greater-right}
 use Rattle.range.proofs.Powers.{chain-low, down-down, up-up}
 use Rattle.exact.proofs.Units.{units-0, units-1, units-mono, units-nonneg, units-nonpos}
@@ -30,16 +30,16 @@ use Rattle.range.proofs.Holds.{Between, ∈-of, ∈-eq, one-∈, if-∈
 
 -- ---- numbers that are not negative
 module _ {x : ℚ} (p : 0ℚ ≤ℚ x) where
-  pow-nonneg : (e : ℕ) → 0ℚ ≤ℚ x ^ e
+  pow-nonneg : (e : ℕ) → 0ℚ ≤ℚ x ^ℚ e
   pow-nonneg e = Ord.pow-nonneg ℚ-ordered e p
 
   -- one more factor, from the other side
-  pow-suc : (e : ℕ) → x ^ suc e *ℚ x ≡ x ^ suc (suc e)
-  unfolding Ring.pow
-  pow-suc e = Q.*ℚ-comm (x ^ suc e) x
+  pow-suc : (e : ℕ) → x ^ℚ suc e *ℚ x ≡ x ^ℚ suc (suc e)
+  unfolding Ring.power
+  pow-suc e = Q.*ℚ-comm (x ^ℚ suc e) x
 
-  pub pow-lower : (l : ℤ) → pos 0 ≤ℤ l → units l ≤ℚ x → (e : ℕ) → units (D l e) ≤ℚ x ^ e
-  unfolding chain Ring.pow
+  pub pow-lower : (l : ℤ) → pos 0 ≤ℤ l → units l ≤ℚ x → (e : ℕ) → units (D l e) ≤ℚ x ^ℚ e
+  unfolding chain Ring.power
   pow-lower l n h zero = Q.≤ℚ-of-≡ units-1
   pow-lower l n h (suc zero) = rw (Q.*ℚ-one x) h
   pow-lower l n h (suc (suc e)) =
@@ -50,8 +50,8 @@ module _ {x : ℚ} (p : 0ℚ ≤ℚ x) where
       (Ord.mul-mono ℚ-ordered (units-nonneg (chain-low down-down n (≤ℤ-refl l) (suc e))) (pow-lower l n h (suc e)) (units-nonneg n) h))
       (pow-suc e)
 
-  pub pow-upper : (h : ℤ) → x ≤ℚ units h → (e : ℕ) → x ^ e ≤ℚ units (U h e)
-  unfolding chain Ring.pow
+  pub pow-upper : (h : ℤ) → x ≤ℚ units h → (e : ℕ) → x ^ℚ e ≤ℚ units (U h e)
+  unfolding chain Ring.power
   pow-upper h k zero = Q.≤ℚ-of-≡ (sym units-1)
   pow-upper h k (suc zero) = rw (Q.*ℚ-one x) k
   pow-upper h k (suc (suc e)) =
@@ -71,42 +71,42 @@ even-suc e = go (e % 2) (suc e % 2) (omega arith)
     go (suc r) (suc s) h = let f : ⊥ = omega arith in absurd f
 
 module _ (x : ℚ) where
-  neg-pow : (e : ℕ) → negℚ x ^ e ≡ cond (isEven e) (x ^ e) (negℚ (x ^ e))
-  unfolding Ring.pow
+  neg-pow : (e : ℕ) → negℚ x ^ℚ e ≡ cond (isEven e) (x ^ℚ e) (negℚ (x ^ℚ e))
+  unfolding Ring.power
   neg-pow zero = refl
   neg-pow (suc e) =
       ap (λ t. negℚ x *ℚ t) (neg-pow e)
       ∙ go (isEven e)
-      ∙ ap (λ c. cond c (x *ℚ x ^ e) (negℚ (x *ℚ x ^ e))) (sym (even-suc e))
+      ∙ ap (λ c. cond c (x *ℚ x ^ℚ e) (negℚ (x *ℚ x ^ℚ e))) (sym (even-suc e))
     where
-      go : (b : Bool) → negℚ x *ℚ cond b (x ^ e) (negℚ (x ^ e)) ≡ cond (not b) (x *ℚ x ^ e) (negℚ (x *ℚ x ^ e))
-      go true = ring ℚ-ring 2 (λ x p. :- x :* p := :- (x :* p)) tt x (x ^ e)
-      go false = ring ℚ-ring 2 (λ x p. :- x :* :- p := x :* p) tt x (x ^ e)
+      go : (b : Bool) → negℚ x *ℚ cond b (x ^ℚ e) (negℚ (x ^ℚ e)) ≡ cond (not b) (x *ℚ x ^ℚ e) (negℚ (x *ℚ x ^ℚ e))
+      go true = ring ℚ-ring 2 (λ x p. :- x :* p := :- (x :* p)) tt x (x ^ℚ e)
+      go false = ring ℚ-ring 2 (λ x p. :- x :* :- p := x :* p) tt x (x ^ℚ e)
 
-  pub even-pow : (e : ℕ) → T (isEven e) → negℚ x ^ e ≡ x ^ e
+  pub even-pow : (e : ℕ) → T (isEven e) → negℚ x ^ℚ e ≡ x ^ℚ e
   even-pow e t = neg-pow e ∙ go (isEven e) t
     where
-      go : (b : Bool) → T b → cond b (x ^ e) (negℚ (x ^ e)) ≡ x ^ e
+      go : (b : Bool) → T b → cond b (x ^ℚ e) (negℚ (x ^ℚ e)) ≡ x ^ℚ e
       go true t = refl
       go false t = absurd t
 
-  pub odd-pow : (e : ℕ) → T (not (isEven e)) → negℚ (negℚ x ^ e) ≡ x ^ e
+  pub odd-pow : (e : ℕ) → T (not (isEven e)) → negℚ (negℚ x ^ℚ e) ≡ x ^ℚ e
   odd-pow e t = ap negℚ (neg-pow e) ∙ go (isEven e) t
     where
-      go : (b : Bool) → T (not b) → negℚ (cond b (x ^ e) (negℚ (x ^ e))) ≡ x ^ e
+      go : (b : Bool) → T (not b) → negℚ (cond b (x ^ℚ e) (negℚ (x ^ℚ e))) ≡ x ^ℚ e
       go true t = absurd t
-      go false t = Q.negℚ-negℚ (x ^ e)
+      go false t = Q.negℚ-negℚ (x ^ℚ e)
 
 -- ---- by the signs of the ends
 module _ (a : Range) {x : ℚ} (e : ℕ) (i : Between x a) where
-  above-∈ : pos 0 ≤ℤ a .low → x ^ e ∈ powAbove a e
+  above-∈ : pos 0 ≤ℤ a .low → x ^ℚ e ∈ powAbove a e
   unfolding powAbove
   above-∈ n =
       let p = Q.≤ℚ-trans (units-nonneg n) (i .low) in
       if-∈ (upsWithin (a .high) e) (λ t.
       ∈-of (record { low = pow-lower p (a .low) n (i .low) e; high = pow-upper p (a .high) (i .high) e }))
 
-  below-∈ : a .high ≤ℤ pos 0 → x ^ e ∈ powBelow a e
+  below-∈ : a .high ≤ℤ pos 0 → x ^ℚ e ∈ powBelow a e
   unfolding powBelow
   below-∈ n =
       if-∈ (upsWithin (negℤ (a .low)) e) (λ t.
@@ -117,23 +117,23 @@ module _ (a : Range) {x : ℚ} (e : ℕ) (i : Between x a) where
       p : 0ℚ ≤ℚ negℚ x
       p = Ord.neg-nonneg ℚ-ordered (Q.≤ℚ-trans (i .high) (units-nonpos n))
 
-      magnitude : Between (negℚ x ^ e) (record { low = D (negℤ (a .high)) e; high = U (negℤ (a .low)) e })
+      magnitude : Between (negℚ x ^ℚ e) (record { low = D (negℤ (a .high)) e; high = U (negℤ (a .low)) e })
       magnitude = record {
         low = pow-lower p (negℤ (a .high)) (neg-nonneg n) (neg-lower (a .high) (i .high)) e;
         high = pow-upper p (negℤ (a .low)) (neg-upper (a .low) (i .low)) e;
       }
 
   -- either side of 0, up to a larger magnitude
-  positive : (m : ℤ) → a .high ≤ℤ m → 0ℚ ≤ℚ x → x ^ e ≤ℚ units (U m e)
+  positive : (m : ℤ) → a .high ≤ℤ m → 0ℚ ≤ℚ x → x ^ℚ e ≤ℚ units (U m e)
   positive m o p = pow-upper p m (Q.≤ℚ-trans (i .high) (units-mono o)) e
 
-  negative : (m : ℤ) → negℤ (a .low) ≤ℤ m → x ≤ℚ 0ℚ → negℚ x ^ e ≤ℚ units (U m e)
+  negative : (m : ℤ) → negℤ (a .low) ≤ℤ m → x ≤ℚ 0ℚ → negℚ x ^ℚ e ≤ℚ units (U m e)
   negative m o p = pow-upper (Ord.neg-nonneg ℚ-ordered p) m (Q.≤ℚ-trans (neg-upper (a .low) (i .low)) (units-mono o)) e
 
-  negative-nonneg : x ≤ℚ 0ℚ → 0ℚ ≤ℚ negℚ x ^ e
+  negative-nonneg : x ≤ℚ 0ℚ → 0ℚ ≤ℚ negℚ x ^ℚ e
   negative-nonneg p = pow-nonneg (Ord.neg-nonneg ℚ-ordered p) e
 
-  across-even-∈ : T (isEven e) → x ^ e ∈ powAcrossEven a e
+  across-even-∈ : T (isEven e) → x ^ℚ e ∈ powAcrossEven a e
   unfolding powAcrossEven
   across-even-∈ t =
       if-∈ (upsWithin m e) (λ u.
@@ -152,7 +152,7 @@ module _ (a : Range) {x : ℚ} (e : ℕ) (i : Between x a) where
   U-nonneg : {m : ℤ} → pos 0 ≤ℤ m → pos 0 ≤ℤ U m e
   U-nonneg {m} n = chain-low up-up n (≤ℤ-refl m) e
 
-  across-odd-∈ : a .low ≤ℤ pos 0 → pos 0 ≤ℤ a .high → T (not (isEven e)) → x ^ e ∈ powAcrossOdd a e
+  across-odd-∈ : a .low ≤ℤ pos 0 → pos 0 ≤ℤ a .high → T (not (isEven e)) → x ^ℚ e ∈ powAcrossOdd a e
   unfolding powAcrossOdd
   across-odd-∈ l h t =
       if-∈ (upsWithin (negℤ (a .low)) e && upsWithin (a .high) e) (λ v.
@@ -171,7 +171,7 @@ module _ (a : Range) {x : ℚ} (e : ℕ) (i : Between x a) where
       u : ℤ
       u = U (negℤ (a .low)) e
 
-  by-sign-∈ : x ^ e ∈ powBySign a e
+  by-sign-∈ : x ^ℚ e ∈ powBySign a e
   unfolding powBySign powAcross
   by-sign-∈ =
       either-∈ (leZ (pos 0) (a .low))
@@ -181,6 +181,6 @@ module _ (a : Range) {x : ℚ} (e : ℕ) (i : Between x a) where
       (λ u. below-∈ (leZ-yes u))
       (λ u. either-∈ (isEven e) across-even-∈ (across-odd-∈ (<ℤ→≤ℤ (leZ-no t)) (<ℤ→≤ℤ (leZ-no u)))))
 
-pub power-∈ : {a : Range} {x : ℚ} (e : ℕ) → x ∈ a → x ^ e ∈ powOf a e
-unfolding powOf Ring.pow
+pub power-∈ : {a : Range} {x : ℚ} (e : ℕ) → x ∈ a → x ^ℚ e ∈ powOf a e
+unfolding powOf Ring.power
 power-∈ {a} e h = if-∈ (isValid a) (λ t. either-∈ (eqb e 0) (λ z. rw (eqb→eq e 0 z) one-∈) (λ n. by-sign-∈ a e (h .between t)))

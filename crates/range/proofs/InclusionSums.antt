@@ -7,9 +7,9 @@ use lib.Dec.{T}
 use lib.IntN.{ℤ, pos, negsuc, negℤ, _*ℤ_, natAbs}
 use lib.Signed.{_≤ℤ_, ≤ℤ-refl}
 use Rattle.algebra.proofs.Ordered as Ord
-use Rattle.exact.specs.Int.{ℤ-ring}
 use Rattle.algebra.proofs.Sum as Sum
-use Rattle.exact.specs.Int.{ints, neg-dif, pos-≤, ≤ℤ-trans}
+use Rattle.algebra.proofs.Int.{ℤ-ring}
+use Rattle.algebra.proofs.Int.{ints, neg-dif, pos-≤, ≤ℤ-trans}
 use Rattle.exact.proofs.Sqrt.{ceil-root}
 use Rattle.exact.proofs.Rat as Q
 use Rattle.exact.proofs.Rat.{ℚ, _*ℚ_, _≤ℚ_, 0ℚ}
@@ -18,9 +18,9 @@ use Rattle.exact.proofs.Rat.{ℚ-ring, ℚ-ordered}
 use Rattle.range.specs.declared.Range.{Range}
 use Rattle.range.specs.Limit.{fromTo, over, isValid, kept}
 use Rattle.range.specs.Arithmetic.{endsProduct}
-use Rattle.range.specs.Sums.{has, sumOver, at, validOver, endsProducts, productsOf}
+use Rattle.range.specs.Sums.{has, sumOver, sumOverℤ, at, validOver, endsProducts, productsOf}
 use Rattle.range.specs.Sums.{largestSquare, squareSum, squaresOf, rootSum, rootOf}
-use Rattle.range.specs.Inclusion.{_∈_, Members, sumℚ}
+use Rattle.range.specs.Inclusion.{_∈_, Members, sumOverℚ}
 use Rattle.range.proofs.Valid.{and-left, and-right, if-valid, if-passed, kept-valid, kept-is}
 use Rattle.range.proofs.Extremes.{greater-left, greater-right}
 use Rattle.range.proofs.SumOver.{sumOver-mono, sumOver-nonneg, members-valid}
@@ -30,7 +30,7 @@ use Rattle.range.proofs.Bounded.{between-of, one-nonneg, product-scaled
 use Rattle.range.proofs.Scaled as S
 
 -- ---- a sum in units
-pub sumOver-units : (s : ℕ) (f : ℕ → ℤ) → units (sumOver ℤ-ring s f) ≡ sumℚ s (λ a. units (f a))
+pub sumOver-units : (s : ℕ) (f : ℕ → ℤ) → units (sumOverℤ s f) ≡ sumOverℚ s (λ a. units (f a))
 unfolding sumOver
 sumOver-units s f = sum-units 8 (λ a. cond (has s a) (f a) (pos 0)) ∙ Sum.sum-ext ℚ-ring 8 (λ a l. part (has s a) (f a))
   where
@@ -40,10 +40,10 @@ sumOver-units s f = sum-units 8 (λ a. cond (has s a) (f a) (pos 0)) ∙ Sum.sum
 
 -- bounds of the summands bound the sum
 module _ (s : ℕ) (f : ℕ → ℤ) {v : ℕ → ℚ} where
-  sum-lower : ((a : ℕ) → a < 8 → T (has s a) → units (f a) ≤ℚ v a) → units (sumOver ℤ-ring s f) ≤ℚ sumℚ s v
+  sum-lower : ((a : ℕ) → a < 8 → T (has s a) → units (f a) ≤ℚ v a) → units (sumOverℤ s f) ≤ℚ sumOverℚ s v
   sum-lower h = Ord.eq-le ℚ-ordered (sumOver-units s f) (sumOver-mono ℚ-ordered s h)
 
-  sum-upper : ((a : ℕ) → a < 8 → T (has s a) → v a ≤ℚ units (f a)) → sumℚ s v ≤ℚ units (sumOver ℤ-ring s f)
+  sum-upper : ((a : ℕ) → a < 8 → T (has s a) → v a ≤ℚ units (f a)) → sumOverℚ s v ≤ℚ units (sumOverℤ s f)
   sum-upper h = Ord.le-eq ℚ-ordered (sumOver-mono ℚ-ordered s h) (sym (sumOver-units s f))
 
 pub each-between : {s : ℕ} {g : List Range} {x : ℕ → ℚ} → Members s x g → T (validOver s g)
@@ -54,7 +54,7 @@ each-between {s} {g} m v a l t = m .each a l t .between (members-valid s g v a l
 product-between : (a b : Range) {x y : ℚ} → Between x a → Between y b → Between (x *ℚ y) (endsProduct a b)
 product-between a b i j = between-of (product-scaled a b one-nonneg i (S.at-one ℚ-ordered (j .low) (j .high)))
 
-pub products-∈ : {s : ℕ} {g h : List Range} {x y : ℕ → ℚ} → Members s x g → Members s y h → sumℚ s (λ a. x a *ℚ y a) ∈ productsOf s g h
+pub products-∈ : {s : ℕ} {g h : List Range} {x y : ℕ → ℚ} → Members s x g → Members s y h → sumOverℚ s (λ a. x a *ℚ y a) ∈ productsOf s g h
 unfolding productsOf endsProducts
 products-∈ {s} {g} {h} {x} {y} m n =
     if-∈ (validOver s g && validOver s h) (λ v.
@@ -78,15 +78,15 @@ square-upper {r} i =
     (ceil-above (r .low) (r .low) (greater-left (r .low *ℤ r .low) (r .high *ℤ r .high)))
     (ceil-above (r .high) (r .high) (greater-right (r .low *ℤ r .low) (r .high *ℤ r .high)))
 
-pub squares-nonneg : (s : ℕ) (x : ℕ → ℚ) → 0ℚ ≤ℚ sumℚ s (λ a. x a *ℚ x a)
+pub squares-nonneg : (s : ℕ) (x : ℕ → ℚ) → 0ℚ ≤ℚ sumOverℚ s (λ a. x a *ℚ x a)
 squares-nonneg s x = sumOver-nonneg ℚ-ordered s (λ a l t. Ord.square-nonneg ℚ-ordered (x a))
 
 pub squares-upper : {s : ℕ} {g : List Range} {x : ℕ → ℚ} → Members s x g → T (validOver s g)
-    → sumℚ s (λ a. x a *ℚ x a) ≤ℚ units (squareSum s g)
+    → sumOverℚ s (λ a. x a *ℚ x a) ≤ℚ units (squareSum s g)
 unfolding squareSum
 squares-upper {s} {g} m v = sum-upper s (λ a. largestSquare (at g a)) (λ a l t. square-upper (each-between m v a l t))
 
-pub squares-∈ : {s : ℕ} {g : List Range} {x : ℕ → ℚ} → Members s x g → sumℚ s (λ a. x a *ℚ x a) ∈ squaresOf s g
+pub squares-∈ : {s : ℕ} {g : List Range} {x : ℕ → ℚ} → Members s x g → sumOverℚ s (λ a. x a *ℚ x a) ∈ squaresOf s g
 unfolding squaresOf
 squares-∈ {s} {g} {x} m =
     if-∈ (validOver s g) (λ v.
@@ -137,7 +137,7 @@ module _ (s : ℕ) (g h : List Range) where
       products-≤ p q (rootSum s g h) (rootSum s g h) (≤ℤ-trans (product-≤ p q) (pos-≤ (ceil-root (natAbs p * natAbs q) .high)))
 
 pub root-∈ : {s : ℕ} {g h : List Range} {x y : ℕ → ℚ} → Members s x g → Members s y h → T (isValid (rootOf s g h))
-    → sumℚ s (λ a. x a *ℚ x a) *ℚ sumℚ s (λ a. y a *ℚ y a) ≤ℚ units (rootOf s g h .high) *ℚ units (rootOf s g h .high)
+    → sumOverℚ s (λ a. x a *ℚ x a) *ℚ sumOverℚ s (λ a. y a *ℚ y a) ≤ℚ units (rootOf s g h .high) *ℚ units (rootOf s g h .high)
 root-∈ {s} {g} {h} {x} {y} m n t =
     let r = root-of s g h t in
     rw (r .is)

@@ -6,7 +6,7 @@ use Prim.Native.Nat.{ℕ}
 use lib.Dec.{T}
 use lib.IntN.{ℤ, pos, negsuc, negℤ, natAbs}
 use lib.Signed.{leZ, ltZ, _≤ℤ_, _<ℤ_, ltZ-yes, ltZ-no, leZ-yes, clashℤ}
-use Rattle.exact.specs.Int.{ints, neg-dif, leZ-no}
+use Rattle.algebra.proofs.Int.{ints, neg-dif, leZ-no}
 use Rattle.exact.proofs.Div.{floorDiv, ceilDiv, floorQuot, ceilQuot, bySign, OneSign}
 use Rattle.range.specs.declared.Range.{Range}
 use Rattle.range.specs.Limit.{fromTo, over, isValid, kept, sticky₁}

@@ -7,9 +7,9 @@ use native.Mathlib.Nat as N
 use lib.Dec.{T}
 use lib.IntN.{ℤ, pos, negℤ, _*ℤ_}
 use lib.Signed.{leZ, _≤ℤ_, ≤ℤ-refl, <ℤ-≤ℤ-trans, leZ-yes}
-use Rattle.exact.specs.Int.{ℤ-ordered}
 use Rattle.algebra.proofs.Ordered as Ord
-use Rattle.exact.specs.Int.{ints, neg-dif, +ℤ-mono, neg-anti, pos-≤, natAbs-mono, ≤ℤ-trans, ≤ℤ-<ℤ-trans}
+use Rattle.algebra.proofs.Int.{ℤ-ordered}
+use Rattle.algebra.proofs.Int.{ints, neg-dif, +ℤ-mono, neg-anti, pos-≤, natAbs-mono, ≤ℤ-trans, ≤ℤ-<ℤ-trans}
 use Rattle.exact.proofs.Div.{floor-mono, ceil-mono, floor≤ceil}
 use Rattle.exact.proofs.Sqrt.{ceil-root-mono}
 use Rattle.range.specs.declared.Range.{Range}

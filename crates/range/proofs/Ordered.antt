@@ -8,7 +8,7 @@ use lib.Dec.{T, eqb}
 use lib.IntN.{ℤ, pos, negℤ, _*ℤ_}
 use lib.Signed.{leZ, _≤ℤ_, _<ℤ_, ≤ℤ-refl, leZ-yes}
 use Rattle.algebra.proofs.Ordered as Ord
-use Rattle.exact.specs.Int.{ints, ℤ-ordered, neg-dif, +ℤ-mono, neg-anti, pos-≤, ≤ℤ-trans, leZ-no, <ℤ→≤ℤ}
+use Rattle.algebra.proofs.Int.{ints, ℤ-ordered, neg-dif, +ℤ-mono, neg-anti, pos-≤, ≤ℤ-trans, leZ-no, <ℤ→≤ℤ}
 use Rattle.exact.proofs.Div.{ceil-mono, floor≤ceil}
 use Rattle.range.specs.declared.Range.{Range}
 use Rattle.range.specs.Arithmetic.{greaterOf, leastProduct, endsSum, endsNeg, endsTimes, endsProduct, endsInverse, endsHull, holdsZero}

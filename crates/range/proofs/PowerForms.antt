@@ -7,7 +7,7 @@ use native.Mathlib.Nat as N
 use lib.Dec.{T, leb·zero, leb·suc-zero, eqb, eqb·suc-zero}
 use lib.IntN.{ℤ, pos, negsuc, negℤ, _-ℤ_, *ℤ-zero, +ℤ-idl, +ℤ-idr}
 use lib.Signed.{leZ, _≤ℤ_, ≤ℤ-refl, leZ-yes}
-use Rattle.exact.specs.Int.{ints, posPart, negPart, neg-dif, pos-≤, ≤ℤ-antisym, ≤ℤ-trans}
+use Rattle.algebra.proofs.Int.{ints, posPart, negPart, neg-dif, pos-≤, ≤ℤ-antisym, ≤ℤ-trans}
 use Rattle.exact.proofs.Div.{floorDiv, ceilDiv}
 use Rattle.range.specs.declared.Range.{Range}
 use Rattle.range.specs.Limit.{fromTo, most, oneRange, over}

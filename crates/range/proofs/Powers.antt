@@ -5,7 +5,7 @@ use lib.Dec.{T, lit<}
 use lib.IntN.{ℤ, pos, zero-*ℤ, *ℤ-zero}
 use lib.Signed.{leZ, _≤ℤ_, ≤ℤ-refl, leZ-yes}
 use Rattle.algebra.proofs.Ordered as Ord
-use Rattle.exact.specs.Int.{ℤ-ordered, ≤ℤ-trans, *ℤ-nonneg}
+use Rattle.algebra.proofs.Int.{ℤ-ordered, ≤ℤ-trans, *ℤ-nonneg}
 use Rattle.exact.proofs.Div.{floorDiv, ceilDiv, floor-iff, floor-mono, ceil-mono, floor≤ceil}
 use Rattle.range.specs.Limit.{most}
 use Rattle.range.specs.Power.{chain, D, U, upsWithin}

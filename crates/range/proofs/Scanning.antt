@@ -11,12 +11,12 @@ use borrow.Author.Count.{below-more}
 use lib.Dec.{T, eqb}
 use lib.Pow.{pow-pos, pow-mono}
 use lib.IntN.{ℤ, pos, natAbs, _+ℤ_, +ℤ-comm, +ℤ-idl}
-use Rattle.algebra.specs.Sum.{sum}
-use Rattle.exact.specs.Int.{ℤ-ring, add-abs}
+use Rattle.algebra.specs.Sum.{sum, sumBelow}
+use Rattle.algebra.proofs.Int.{ℤ-ring, add-abs}
 use Rattle.range.specs.declared.Range.{Range}
 use Rattle.range.specs.Limit.{fromTo, zeroRange, isValid}
 use Rattle.range.specs.Arithmetic.{endsSum}
-use Rattle.range.specs.Sums.{has, sumOver, at, validBelow, validOver}
+use Rattle.range.specs.Sums.{has, sumOver, sumOverℤ, at, validBelow, validOver}
 use Rattle.range.specs.Steps.{Small}
 
 pub record Scan (s rest a : ℕ) : Type 0 where
@@ -100,7 +100,7 @@ few-small h = record { low = omega (arith, h .low); high = omega (arith, h .high
 
 module _ (s : ℕ) (f : ℕ → ℤ) where
   sum-rest : (n a : ℕ) → ((b : ℕ) → a ≤ b → has s b ≡ false) → sum ℤ-ring (n + a) (memberOr s f) ≡ sum ℤ-ring a (memberOr s f)
-  unfolding sum
+  unfolding sumBelow
   sum-rest zero a z = ap (λ (k : ℕ). sum ℤ-ring k (memberOr s f)) (N.zero-add a)
   sum-rest (suc n) a z =
       ap (λ (k : ℕ). sum ℤ-ring k (memberOr s f)) (N.suc-add n a)
@@ -108,13 +108,13 @@ module _ (s : ℕ) (f : ℕ → ℤ) where
       ∙ +ℤ-idl (sum ℤ-ring (n + a) (memberOr s f))
       ∙ sum-rest n a z
 
-  sum-end : (rest a : ℕ) → Scan s rest a → rest ≡ 0 → sum ℤ-ring a (memberOr s f) ≡ sumOver ℤ-ring s f
+  sum-end : (rest a : ℕ) → Scan s rest a → rest ≡ 0 → sum ℤ-ring a (memberOr s f) ≡ sumOverℤ s f
   unfolding sumOver
   sum-end rest a i z =
       sym (sum-rest (8 - a) a (scan-none s rest a i z)) ∙ ap (λ (k : ℕ). sum ℤ-ring k (memberOr s f)) (omega (arith, i .within))
 
   sum-few : (a : ℕ) → ((b : ℕ) → b < a → T (has s b) → natAbs (f b) ≤ few) → natAbs (sum ℤ-ring a (memberOr s f)) ≤ a * few
-  unfolding sum
+  unfolding sumBelow
   sum-few zero h = zero-le
   sum-few (suc a) h = omega (
     arith,
@@ -142,7 +142,7 @@ module _ (s : ℕ) (term : ℕ → Range) where
     pub is : total ≡ fromTo (lowSum a) (highSum a)
 
   pub summed-start : s < 256 → Summed zeroRange s 0
-  unfolding sum
+  unfolding sumBelow
   summed-start h = record { scan = scan-start s h; each = λ b l t. let f : ⊥ = omega arith in absurd f; is = refl }
 
   module _ (total : Range) (rest a : ℕ) (i : Summed total rest a) where
@@ -156,7 +156,7 @@ module _ (s : ℕ) (term : ℕ → Range) where
     -- a turn: a member's term is added, and nothing for a factor outside the set
     pub summed-member : (next : Range) → a < 8 → has s a ≡ true → Few (term a) → next ≡ endsSum total (term a)
         → Summed next (rest / 2) (a + 1)
-    unfolding sum
+    unfolding sumBelow
     summed-member next l m h n = record {
       scan = scan-next s rest a (i .scan) l;
       each = below-more (λ b. T (has s b) → Few (term b)) a (i .each) (λ t. h);
@@ -164,7 +164,7 @@ module _ (s : ℕ) (term : ℕ → Range) where
     }
 
     pub summed-skip : a < 8 → has s a ≡ false → Summed total (rest / 2) (a + 1)
-    unfolding sum
+    unfolding sumBelow
     summed-skip l m = record {
       scan = scan-next s rest a (i .scan) l;
       each = below-more (λ b. T (has s b) → Few (term b)) a (i .each) (λ t. absurd (rw m at t));
@@ -172,7 +172,7 @@ module _ (s : ℕ) (term : ℕ → Range) where
     }
 
     -- the end
-    pub summed-end : rest ≡ 0 → total ≡ fromTo (sumOver ℤ-ring s (λ k. term k .low)) (sumOver ℤ-ring s (λ k. term k .high))
+    pub summed-end : rest ≡ 0 → total ≡ fromTo (sumOverℤ s (λ k. term k .low)) (sumOverℤ s (λ k. term k .high))
     summed-end z =
         i .is
         ∙ ap₂ fromTo (sum-end s (λ k. term k .low) rest a (i .scan) z) (sum-end s (λ k. term k .high) rest a (i .scan) z)

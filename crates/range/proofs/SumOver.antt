@@ -14,7 +14,7 @@ use Rattle.algebra.proofs.Ring.{CommRing}
 use Rattle.algebra.proofs.Ordered as Ord
 use Rattle.algebra.proofs.Ordered.{OrderedRing}
 use Rattle.algebra.proofs.Sum as Sum
-use Rattle.exact.specs.Int.{ℤ-ordered, ≤ℤ-trans}
+use Rattle.algebra.proofs.Int.{ℤ-ordered, ≤ℤ-trans}
 use Rattle.range.specs.declared.Range.{Range}
 use Rattle.range.specs.Limit.{isValid}
 use Rattle.range.specs.Sums.{has, sumOver, at, validBelow, validOver, largestSquare, squareSum}
@@ -25,7 +25,7 @@ use Rattle.range.proofs.Valid.{T-true, and-left, and-right, and-both}
 -- ---- sums
 -- the members' summands decide
 module _ {R : Type 0} (𝓡 : CommRing R) (s : ℕ) {f g : ℕ → R} where
-  pub sumOver-ext : ((a : ℕ) → a < 8 → T (has s a) → f a ≡ g a) → sumOver 𝓡 s f ≡ sumOver 𝓡 s g
+  pub sumOver-ext : ((a : ℕ) → a < 8 → T (has s a) → f a ≡ g a) → sumOver (𝓡 .𝟘) (𝓡 .add) s f ≡ sumOver (𝓡 .𝟘) (𝓡 .add) s g
   unfolding sumOver
   sumOver-ext e = Sum.sum-ext 𝓡 8 (λ a l. part (has s a) (e a l))
     where
@@ -39,7 +39,7 @@ module _ {R : Type 0} (𝓞 : OrderedRing R) where
   open CommRing (𝓞 .commRing) using (𝟘)
 
   module _ (s : ℕ) {f g : ℕ → R} where
-    pub sumOver-mono : ((a : ℕ) → a < 8 → T (has s a) → f a ≤ g a) → sumOver 𝓡 s f ≤ sumOver 𝓡 s g
+    pub sumOver-mono : ((a : ℕ) → a < 8 → T (has s a) → f a ≤ g a) → sumOver (𝓡 .𝟘) (𝓡 .add) s f ≤ sumOver (𝓡 .𝟘) (𝓡 .add) s g
     unfolding sumOver
     sumOver-mono h = Sum.sum-mono 𝓞 8 (λ a l. part (has s a) (h a l))
       where
@@ -47,7 +47,7 @@ module _ {R : Type 0} (𝓞 : OrderedRing R) where
         part true k = k tt
         part false k = le-refl 𝟘
 
-  pub sumOver-zero : (s : ℕ) → sumOver 𝓡 s (λ a. 𝟘) ≡ 𝟘
+  pub sumOver-zero : (s : ℕ) → sumOver (𝓡 .𝟘) (𝓡 .add) s (λ a. 𝟘) ≡ 𝟘
   unfolding sumOver
   sumOver-zero s = Sum.sum-zero 𝓡 8 (λ a l. part (has s a))
     where
@@ -55,7 +55,7 @@ module _ {R : Type 0} (𝓞 : OrderedRing R) where
       part true = refl
       part false = refl
 
-  pub sumOver-nonneg : (s : ℕ) {f : ℕ → R} → ((a : ℕ) → a < 8 → T (has s a) → 𝟘 ≤ f a) → 𝟘 ≤ sumOver 𝓡 s f
+  pub sumOver-nonneg : (s : ℕ) {f : ℕ → R} → ((a : ℕ) → a < 8 → T (has s a) → 𝟘 ≤ f a) → 𝟘 ≤ sumOver (𝓡 .𝟘) (𝓡 .add) s f
   sumOver-nonneg s h = Ord.eq-le 𝓞 (sym (sumOver-zero s)) (sumOver-mono s h)
 
 -- ---- valid lists

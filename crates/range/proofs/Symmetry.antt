@@ -6,9 +6,9 @@ use Prim.Native.Nat.{ℕ}
 use native.Mathlib.Nat as N
 use lib.IntN.{ℤ, pos, negℤ, natAbs, _*ℤ_, +ℤ-comm, *ℤ-comm}
 use lib.Signed.{_≤ℤ_}
-use Rattle.exact.specs.Int.{ℤ-ring}
+use Rattle.algebra.proofs.Int.{ℤ-ring}
+use Rattle.algebra.proofs.Int.{≤ℤ-antisym}
 use Rattle.exact.proofs.Div.{floorDiv, ceilDiv}
-use Rattle.exact.specs.Int.{≤ℤ-antisym}
 use Rattle.exact.proofs.Sqrt.{ceilSqrt}
 use Rattle.range.specs.declared.Range.{Range}
 use Rattle.range.specs.Limit.{fromTo, over, isValid, bothValid, kept, sticky₂}

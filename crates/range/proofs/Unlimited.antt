@@ -7,7 +7,7 @@ use Prim.Native.Nat.{ℕ, zero, suc}
 use lib.Dec.{T, eqb·suc-zero}
 use lib.IntN.{ℤ, pos, negℤ}
 use lib.Signed.{leZ, leZ-yes}
-use Rattle.exact.specs.Int.{ints, neg-dif}
+use Rattle.algebra.proofs.Int.{ints, neg-dif}
 use Rattle.range.specs.declared.Range.{Range}
 use Rattle.range.specs.Limit.{fromTo, least, most, over, isValid, bothValid, kept, sticky₁, sticky₂}
 use Rattle.range.specs.Arithmetic.{greaterOf, endsSum, endsNeg, endsTimes, endsProduct, endsInverse, endsHull, holdsZero, sumOf, negOf, timesOf, productOf, inverseOf, hullOf}

@@ -3,7 +3,7 @@
 use mathlib.Core.Bool.{Bool, true, false, not, cond}
 use lib.Dec.{T}
 use lib.Signed.{_≤ℤ_, ≤ℤ-refl}
-use Rattle.exact.specs.Int.{≤ℤ-trans}
+use Rattle.algebra.proofs.Int.{≤ℤ-trans}
 use Rattle.range.specs.declared.Range.{Range}
 use Rattle.range.specs.Limit.{over, isValid, bothValid, kept, sticky₁, sticky₂}
 use Rattle.range.specs.Laws.{Inside, _⊑_}

@@ -4,7 +4,7 @@ use mathlib.Core.Path.{_≡_, refl}
 use mathlib.Core.List.{List, [], _∷_, map}
 use Prim.Native.Nat.{ℕ}
 use lib.IntN.{ℤ, pos, negℤ}
-use Rattle.algebra.specs.Sum.{sum}
+use Rattle.algebra.specs.Sum.{sumBelow}
 use Rattle.exact.specs.Div.{floorDiv, ceilDiv, floorQuot, ceilQuot}
 use Rattle.exact.specs.Sqrt.{rootBits, floorSqrt, ceilSqrt}
 use Rattle.range.specs.declared.Range.{Range}
@@ -97,6 +97,6 @@ figures =
 pub figures-hold : map (λ f. f .computed) figures ≡ map (λ f. f .expected) figures
 unfolding sumOf negOf timesOf endsProduct productOf endsInverse inverseOf hullOf
     powOf powBySign powAbove powBelow powAcross powAcrossEven powAcrossOdd chain upsWithin
-    productsOf endsProducts squaresOf largestSquare squareSum rootOf rootSum sumOver has validBelow sum
+    productsOf endsProducts squaresOf largestSquare squareSum rootOf rootSum sumOver has validBelow sumBelow
     isValid bothValid kept floorDiv ceilDiv floorQuot ceilQuot ceilSqrt floorSqrt rootBits
 figures-hold = refl

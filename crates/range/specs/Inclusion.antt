@@ -5,10 +5,8 @@ use mathlib.Core.List.{List}
 use Prim.Native.Nat.{ℕ, _<_}
 use lib.Dec.{T}
 use lib.IntN.{pos, negℤ}
-use Rattle.algebra.specs.Ring as Ring
-use Rattle.exact.specs.Rat.{ℚ, fromℤ, _+ℚ_, _*ℚ_, negℚ, _≤ℚ_, 0ℚ, 1ℚ}
+use Rattle.exact.specs.Rat.{ℚ, fromℤ, _+ℚ_, _*ℚ_, _^ℚ_, negℚ, _≤ℚ_, 0ℚ, 1ℚ}
 use Rattle.exact.specs.Units.{units, In}
-use Rattle.exact.proofs.Rat.{ℚ-ring}
 use Rattle.range.specs.declared.Range.{Range}
 use Rattle.range.specs.Limit.{zeroRange, oneRange, isValid}
 use Rattle.range.specs.Arithmetic.{sumOf, negOf, timesOf, productOf, inverseOf, hullOf}
@@ -28,12 +26,9 @@ pub record Members (s : ℕ) (x : ℕ → ℚ) (g : List Range) : Type 0 where
 abbrev pub num : ℕ → ℚ
 num k = fromℤ (pos k)
 
-infixr 80 _^_
-abbrev pub _^_ : ℚ → ℕ → ℚ
-x ^ e = Ring.pow ℚ-ring x e
-
-abbrev pub sumℚ : ℕ → (ℕ → ℚ) → ℚ
-sumℚ s f = sumOver ℚ-ring s f
+-- the sum of numbers over the factors in s
+abbrev pub sumOverℚ : ℕ → (ℕ → ℚ) → ℚ
+sumOverℚ s f = sumOver 0ℚ _+ℚ_ s f
 
 pub record Inclusion : Type 0 where
   pub zero : 0ℚ ∈ zeroRange
@@ -45,13 +40,13 @@ pub record Inclusion : Type 0 where
   -- y is 1/x; where the inverse is valid there is one
   pub inverse : {a : Range} {x y : ℚ} → x ∈ a → x *ℚ y ≡ 1ℚ → y ∈ inverseOf a
   pub divisor : {a : Range} {x : ℚ} → T (isValid (inverseOf a)) → x ∈ a → ¬ (x ≡ 0ℚ)
-  pub power : {a : Range} {x : ℚ} (e : ℕ) → x ∈ a → x ^ e ∈ powOf a e
+  pub power : {a : Range} {x : ℚ} (e : ℕ) → x ∈ a → x ^ℚ e ∈ powOf a e
   pub hull-left : {a : Range} (b : Range) {x : ℚ} → x ∈ a → x ∈ hullOf a b
   pub hull-right : (a : Range) {b : Range} {x : ℚ} → x ∈ b → x ∈ hullOf a b
-  pub products : {s : ℕ} {g h : List Range} {x y : ℕ → ℚ} → Members s x g → Members s y h → sumℚ s (λ a. x a *ℚ y a) ∈ productsOf s g h
-  pub squares : {s : ℕ} {g : List Range} {x : ℕ → ℚ} → Members s x g → sumℚ s (λ a. x a *ℚ x a) ∈ squaresOf s g
+  pub products : {s : ℕ} {g h : List Range} {x y : ℕ → ℚ} → Members s x g → Members s y h → sumOverℚ s (λ a. x a *ℚ y a) ∈ productsOf s g h
+  pub squares : {s : ℕ} {g : List Range} {x : ℕ → ℚ} → Members s x g → sumOverℚ s (λ a. x a *ℚ x a) ∈ squaresOf s g
   -- [−β, β] with (Σ x²)(Σ y²) ≤ β²
   pub root-ends : (s : ℕ) (g h : List Range) → T (isValid (rootOf s g h))
       → (rootOf s g h .low ≡ negℤ (rootOf s g h .high)) × (0ℚ ≤ℚ units (rootOf s g h .high))
   pub root : {s : ℕ} {g h : List Range} {x y : ℕ → ℚ} → Members s x g → Members s y h → T (isValid (rootOf s g h))
-      → sumℚ s (λ a. x a *ℚ x a) *ℚ sumℚ s (λ a. y a *ℚ y a) ≤ℚ units (rootOf s g h .high) *ℚ units (rootOf s g h .high)
+      → sumOverℚ s (λ a. x a *ℚ x a) *ℚ sumOverℚ s (λ a. y a *ℚ y a) ≤ℚ units (rootOf s g h .high) *ℚ units (rootOf s g h .high)

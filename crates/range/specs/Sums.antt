@@ -4,11 +4,9 @@ use mathlib.Core.Bool.{Bool, true, _&&_, _||_, not, cond}
 use mathlib.Core.List.{List, [], _∷_}
 use Prim.Native.Nat.{ℕ, zero, suc, _+_, _*_, _/_, _%_, _^_}
 use lib.Dec.{eqb}
-use lib.IntN.{ℤ, pos, negℤ, _*ℤ_, natAbs}
+use lib.IntN.{ℤ, pos, negℤ, _+ℤ_, _*ℤ_, natAbs}
 use lib.ListN.{getD}
-use Rattle.algebra.specs.Ring.{CommRing}
-use Rattle.algebra.specs.Sum.{sum}
-use Rattle.exact.specs.Int.{ℤ-ring}
+use Rattle.algebra.specs.Sum.{sumBelow}
 use Rattle.exact.specs.Div.{ceilDiv}
 use Rattle.exact.specs.Sqrt.{ceilSqrt}
 use Rattle.range.specs.declared.Range.{Range}
@@ -19,9 +17,12 @@ use Rattle.range.specs.Arithmetic.{greaterOf, endsProduct}
 unfoldable pub has : ℕ → ℕ → Bool
 has s a = eqb (s / 2 ^ a % 2) 1
 
--- The sum of f over the factors in s. There are at most eight factors.
-unfoldable pub sumOver : {R : Type 0} → CommRing R → ℕ → (ℕ → R) → R
-sumOver 𝓡 s f = sum 𝓡 8 (λ a. cond (has s a) (f a) (𝓡 .𝟘))
+-- The sum of f over the factors in s, from a zero and an addition; and of integers. There are at most eight factors.
+unfoldable pub sumOver : {R : Type 0} → R → (R → R → R) → ℕ → (ℕ → R) → R
+sumOver 𝟘 add s f = sumBelow 𝟘 add 8 (λ a. cond (has s a) (f a) 𝟘)
+
+abbrev pub sumOverℤ : ℕ → (ℕ → ℤ) → ℤ
+sumOverℤ s f = sumOver (pos 0) _+ℤ_ s f
 
 -- A list of ranges, one for each factor.
 abbrev pub at : List Range → ℕ → Range
@@ -56,8 +57,8 @@ validOver s g = validBelow 8 s g
 unfoldable pub endsProducts : ℕ → List Range → List Range → Range
 endsProducts s g h =
     fromTo
-    (sumOver ℤ-ring s (λ a. endsProduct (at g a) (at h a) .low))
-    (sumOver ℤ-ring s (λ a. endsProduct (at g a) (at h a) .high))
+    (sumOverℤ s (λ a. endsProduct (at g a) (at h a) .low))
+    (sumOverℤ s (λ a. endsProduct (at g a) (at h a) .high))
 
 unfoldable pub productsOf : ℕ → List Range → List Range → Range
 productsOf s g h = cond (validOver s g && validOver s h) (kept (endsProducts s g h)) over
@@ -67,7 +68,7 @@ unfoldable pub largestSquare : Range → ℤ
 largestSquare r = ceilDiv (greaterOf (r .low *ℤ r .low) (r .high *ℤ r .high)) 10000
 
 unfoldable pub squareSum : ℕ → List Range → ℤ
-squareSum s g = sumOver ℤ-ring s (λ a. largestSquare (at g a))
+squareSum s g = sumOverℤ s (λ a. largestSquare (at g a))
 
 -- Sq: "from 0 to the sum of the largest squares".
 abbrev pub endsSquares : ℕ → List Range → Range

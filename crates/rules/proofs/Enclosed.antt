@@ -7,12 +7,12 @@ use native.Mathlib.Omega.{arith}
 use lib.Dec.{T, eqb}
 use lib.IntN.{ℤ}
 use Rattle.exact.proofs.Rat as Q
-use Rattle.exact.proofs.Rat.{ℚ, _*ℚ_, 0ℚ, 1ℚ}
+use Rattle.exact.proofs.Rat.{ℚ, _*ℚ_, _^ℚ_, 0ℚ, 1ℚ}
 use Rattle.exact.specs.Units.{units}
 use Rattle.range.specs.declared.Range.{Range}
 use Rattle.range.specs.Limit.{zeroRange, oneRange, isValid}
 use Rattle.range.specs.Arithmetic.{inverseOf}
-use Rattle.range.specs.Inclusion.{_∈_, num, _^_}
+use Rattle.range.specs.Inclusion.{_∈_, num}
 use Rattle.range.specs.Sums.{at}
 use Rattle.range.proofs.Valid.{and-left, and-right}
 use Rattle.range.proofs.Holds.{Between, ∈-of, ∈-eq, exactly-∈}
@@ -107,7 +107,7 @@ module _ {x : Jet} {l : Line} (h : Enclosed x l) where
       (inclusion .power m (value-∈ h))
       (λ a k.
       ∈-eq
-      (sym (Q.*ℚ-assoc (num m) (x .value ^ (m - 1)) (x .first a)))
+      (sym (Q.*ℚ-assoc (num m) (x .value ^ℚ (m - 1)) (x .first a)))
       (inclusion .multiple m (inclusion .product (inclusion .power (m - 1) (value-∈ h)) (first-∈ h a k))))
 
   module _ (t : T (within (lineOf (invRow l)))) where
@@ -116,7 +116,7 @@ module _ {x : Jet} {l : Line} (h : Enclosed x l) where
     unfolding invJet invRow
     inv-enclosed y e =
         enclosed (invRow l) t own
-        (λ a k. inclusion .negation (∈-eq (Q.*ℚ-comm (y ^ 2) (x .first a)) (inclusion .product (inclusion .power 2 own) (first-∈ h a k))))
+        (λ a k. inclusion .negation (∈-eq (Q.*ℚ-comm (y ^ℚ 2) (x .first a)) (inclusion .product (inclusion .power 2 own) (first-∈ h a k))))
       where
         own : y ∈ inverseOf (l .value)
         own = inclusion .inverse (value-∈ h) e

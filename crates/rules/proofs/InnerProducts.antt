@@ -8,14 +8,14 @@ use Rattle.algebra.proofs.Restricted.{restricted, dot-restricted, sum-single, s
 use Rattle.algebra.proofs.Vectors.{dot, cauchy-schwarz, double-upper, double-lower}
 use Rattle.exact.proofs.Rat.{ℚ, _+ℚ_, _-ℚ_, _*ℚ_, _≤ℚ_, 0ℚ, ℚ-ring, ℚ-ordered}
 use Rattle.range.specs.Sums.{has, sumOver}
-use Rattle.range.specs.Inclusion.{num, sumℚ}
+use Rattle.range.specs.Inclusion.{num, sumOverℚ}
 use Rattle.range.proofs.InclusionSums.{squares-nonneg}
 use Rattle.rules.specs.Sets.{_∪_, apart, only}
 use Rattle.rules.proofs.Members.{_⊆_, has-union}
 use Rattle.rules.proofs.SetTests.{apart-disjoint, Only}
 
 abbrev pub inner : ℕ → (ℕ → ℚ) → (ℕ → ℚ) → ℚ
-inner s u v = sumℚ s (λ a. u a *ℚ v a)
+inner s u v = sumOverℚ s (λ a. u a *ℚ v a)
 
 abbrev pub weight : ℕ → (ℕ → ℚ) → ℚ
 weight s v = inner s v v

@@ -7,10 +7,10 @@ use Prim.Native.Nat.{ℕ, zero, suc, _≤_, _-_}
 use lib.Dec.{T, eqb}
 use lib.IntN.{ℤ, pos, negsuc, natAbs}
 use lib.ListN.{getD, length}
+use Rattle.algebra.proofs.Int.{ints}
 use Rattle.codelist.specs.declared.Op.{Op}
 use Rattle.codelist.specs.declared.Op.the-variants.{Add, Mul, AddC, MulC, Pow, Inv}
 use Rattle.codelist.specs.Codelist.{limit, WellFormedOp}
-use Rattle.exact.specs.Int.{ints}
 use Rattle.range.specs.declared.Range.{Range}
 use Rattle.range.specs.Limit.{fromTo, zeroRange, oneRange, isValid}
 use Rattle.range.specs.Arithmetic.{holdsZero}

@@ -6,7 +6,7 @@ use mathlib.Core.List.{List, [], _∷_, List·Memᴰ, List·Memᴰ·head, List·
 use mathlib.Core.Logic.{inl, inr, ⊎-elim, _↔_}
 use lib.Dec.{T}
 use lib.Signed.{leZ, _≤ℤ_, _<ℤ_, leZ-yes, clashℤ}
-use Rattle.exact.specs.Int.{leZ-no, ≤ℤ-trans}
+use Rattle.algebra.proofs.Int.{leZ-no, ≤ℤ-trans}
 use Rattle.range.specs.declared.Range.{Range}
 use Rattle.range.specs.Limit.{least, most, isValid}
 use Rattle.range.proofs.Valid.{false-T, not-true, and-left, and-right, Ends, ends-of}

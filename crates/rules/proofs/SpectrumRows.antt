@@ -9,11 +9,11 @@ use lib.IntN.{ℤ, pos}
 use Rattle.algebra.proofs.Form as Form
 use Rattle.algebra.proofs.Ring as Ring
 use Rattle.exact.proofs.Rat as Q
-use Rattle.exact.proofs.Rat.{ℚ, _+ℚ_, _*ℚ_, 0ℚ, ℚ-ring}
+use Rattle.exact.proofs.Rat.{ℚ, _+ℚ_, _*ℚ_, _^ℚ_, 0ℚ, ℚ-ring}
 use Rattle.exact.proofs.Units.{units}
 use Rattle.range.specs.declared.Range.{Range}
 use Rattle.range.specs.Sums.{has, at}
-use Rattle.range.specs.Inclusion.{_∈_, num, _^_}
+use Rattle.range.specs.Inclusion.{_∈_, num}
 use Rattle.range.proofs.Holds.{exactly-∈}
 use Rattle.range.proofs.Bounded.{Bounded, bounded-eq, zero-bounded, sum-bounded, neg-bounded, times-bounded, product-bounded}
 use Rattle.range.proofs.InclusionPower.{power-∈}
@@ -128,7 +128,7 @@ module _ {x : Line} {j : Jet} (K : Known x j) (X : Curved x j) where
   support-bounded v = extended-bounded (x .nonlinear) (x .support) v (K .nonlinear-in) (X .curved v)
 
   pub pow-curved : (m : ℕ) → 2 ≤ m → Curved (lineOf (powRow x m)) (powJet j m)
-  unfolding lineOf powRow powJet Ring.pow
+  unfolding lineOf powRow powJet Ring.power
   pow-curved m two = record {
     curved = λ v.
         let p = weight-nonneg (x .support) v in
@@ -137,27 +137,27 @@ module _ {x : Line} {j : Jet} (K : Known x j) (X : Curved x j) where
         (product-bounded p (power-∈ (m - 2) (K .value))
         (sum-bounded (times-bounded (m - 1) (square-bounded v)) (product-bounded p (K .value) (support-bounded v)))))
         (sym
-        (Forms.pow-form ℚ-ring 8 (num m) (num (m - 1)) (num (m * (m - 1))) (j .value) (j .value ^ (m - 2)) (j .value ^ (m - 1))
+        (Forms.pow-form ℚ-ring 8 (num m) (num (m - 1)) (num (m * (m - 1))) (j .value) (j .value ^ℚ (m - 2)) (j .value ^ℚ (m - 1))
         (j .second) (j .first) v step (sym (Q.fromℤ-* (pos m) (pos (m - 1))))));
   }
     where
-      raised : (n : ℕ) → j .value ^ suc n ≡ j .value *ℚ j .value ^ n
+      raised : (n : ℕ) → j .value ^ℚ suc n ≡ j .value *ℚ j .value ^ℚ n
       raised n = refl
 
       one-less : m - 1 ≡ suc (m - 2)
       one-less = omega arith
 
-      step : j .value ^ (m - 1) ≡ j .value *ℚ j .value ^ (m - 2)
-      step = ap (λ n. j .value ^ n) one-less ∙ raised (m - 2)
+      step : j .value ^ℚ (m - 1) ≡ j .value *ℚ j .value ^ℚ (m - 2)
+      step = ap (λ n. j .value ^ℚ n) one-less ∙ raised (m - 2)
 
   -- y is 1/x
   pub inv-curved : (y : ℚ) → y ∈ lineOf (invRow x) .value → Curved (lineOf (invRow x)) (invJet j y)
-  unfolding lineOf invRow invJet Ring.pow
+  unfolding lineOf invRow invJet Ring.power
   inv-curved y h = record {
     curved = λ v.
         let p = weight-nonneg (x .support) v in
         bounded-eq
         (product-bounded p (power-∈ 2 h)
         (sum-bounded (times-bounded 2 (product-bounded p h (square-bounded v))) (neg-bounded (support-bounded v))))
-        (sym (Forms.inv-form ℚ-ring 8 y (y ^ 2) (y ^ 3) (j .second) (j .first) v refl));
+        (sym (Forms.inv-form ℚ-ring 8 y (y ^ℚ 2) (y ^ℚ 3) (j .second) (j .first) v refl));
   }

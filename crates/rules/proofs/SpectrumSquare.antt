@@ -7,12 +7,11 @@ use Rattle.algebra.proofs.Ordered as Ord
 use Rattle.algebra.proofs.Solver.{_:*_, _:^_, _:=_, ring}
 use Rattle.algebra.proofs.Vectors.{dot}
 use Rattle.exact.proofs.Rat as Q
-use Rattle.exact.proofs.Rat.{ℚ, _*ℚ_, ℚ-ring, ℚ-ordered}
+use Rattle.exact.proofs.Rat.{ℚ, _*ℚ_, _^ℚ_, ℚ-ring, ℚ-ordered}
 use Rattle.exact.proofs.Units.{units-0}
 use Rattle.range.specs.declared.Range.{Range}
 use Rattle.range.specs.Power.{powOf}
 use Rattle.range.specs.Sums.{at, validOver, endsSquares, squaresOf}
-use Rattle.range.specs.Inclusion.{_^_}
 use Rattle.range.proofs.Bounded.{Bounded, bounded-eq, if-bounded, either-bounded, kept-bounded, weighted-by}
 use Rattle.range.proofs.InclusionPower.{power-∈}
 use Rattle.range.proofs.InclusionSums.{squares-upper}
@@ -29,7 +28,7 @@ module _ {s : ℕ} {g : List Range} {d : ℕ → ℚ} (D : Gradient s g d) (v : 
       let o = the-only D t in
       bounded-eq
       (weighted-by (weight-nonneg s v) (power-∈ 2 (only-∈ D o)))
-      (ap (λ w. d k ^ 2 *ℚ w) (inner-only v v o)
+      (ap (λ w. d k ^ℚ 2 *ℚ w) (inner-only v v o)
       ∙ ring ℚ-ring 2 (λ d v. d :^ 2 :* (v :* v) := v :* d :* (v :* d)) tt (d k) (v k)
       ∙ sym (ap₂ _*ℚ_ (inner-only v d o) (inner-only v d o)))
 

@@ -10,9 +10,9 @@ use Rattle.codelist.specs.declared.Op.{Op}
 use Rattle.codelist.specs.declared.Op.the-variants.{Add, Mul, AddC, MulC, Pow, Inv}
 use Rattle.codelist.specs.declared.Entry.{Entry}
 use Rattle.codelist.specs.declared.Codelist.{Codelist}
-use Rattle.exact.specs.Rat.{ℚ, _+ℚ_, _-ℚ_, _*ℚ_, negℚ, 0ℚ, 1ℚ, recip}
+use Rattle.exact.specs.Rat.{ℚ, _+ℚ_, _-ℚ_, _*ℚ_, _^ℚ_, negℚ, 0ℚ, 1ℚ, recip}
 use Rattle.exact.specs.Units.{units}
-use Rattle.range.specs.Inclusion.{num, _^_}
+use Rattle.range.specs.Inclusion.{num}
 use Rattle.rules.specs.Run.{operations}
 
 -- "A point gives each factor a fraction, its coordinate": factors are counted from 0 here, and a coordinate that is not listed is 0.
@@ -74,17 +74,17 @@ mulJet x y = record {
 -- pow: "x^m | m·x^(m−1)·x_a | m·x^(m−1)·x_ab + m(m−1)·x^(m−2)·x_a·x_b"; "x^0 is 1"
 unfoldable pub powJet : Jet → ℕ → Jet
 powJet x m = record {
-  value = x .value ^ m;
-  first = λ a. num m *ℚ x .value ^ (m - 1) *ℚ x .first a;
-  second = λ a b. num m *ℚ x .value ^ (m - 1) *ℚ x .second a b +ℚ num (m * (m - 1)) *ℚ x .value ^ (m - 2) *ℚ x .first a *ℚ x .first b;
+  value = x .value ^ℚ m;
+  first = λ a. num m *ℚ x .value ^ℚ (m - 1) *ℚ x .first a;
+  second = λ a b. num m *ℚ x .value ^ℚ (m - 1) *ℚ x .second a b +ℚ num (m * (m - 1)) *ℚ x .value ^ℚ (m - 2) *ℚ x .first a *ℚ x .first b;
 }
 
 -- inv: "1/x | −x_a/x² | 2·x_a·x_b/x³ − x_ab/x²", with y for 1/x: x_a/x² is x_a·y²
 unfoldable pub invJet : Jet → ℚ → Jet
 invJet x y = record {
   value = y;
-  first = λ a. negℚ (x .first a *ℚ y ^ 2);
-  second = λ a b. num 2 *ℚ x .first a *ℚ x .first b *ℚ y ^ 3 -ℚ x .second a b *ℚ y ^ 2;
+  first = λ a. negℚ (x .first a *ℚ y ^ℚ 2);
+  second = λ a b. num 2 *ℚ x .first a *ℚ x .first b *ℚ y ^ℚ 3 -ℚ x .second a b *ℚ y ^ℚ 2;
 }
 
 -- ════ the lines ════

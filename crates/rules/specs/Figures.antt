@@ -4,7 +4,7 @@ use mathlib.Core.List.{List, [], _∷_, map}
 use Prim.Native.Nat.{ℕ}
 use lib.Count.{ones, onesIn, trailingZeros}
 use lib.IntN.{ℤ, pos, negℤ}
-use Rattle.algebra.specs.Sum.{sum}
+use Rattle.algebra.specs.Sum.{sumBelow}
 use Rattle.exact.specs.Div.{floorDiv, ceilDiv, floorQuot, ceilQuot}
 use Rattle.exact.specs.Sqrt.{ceilSqrt, floorSqrt, rootBits}
 use Rattle.codelist.specs.declared.Op.{Op}
@@ -139,6 +139,6 @@ unfolding rateOf rateRanges firstBad limitsOf last linesOf runOps factorLines ro
     codelistOf ratable wellFormedOps
     isValid bothValid kept sumOf negOf timesOf endsProduct productOf endsInverse inverseOf hullOf
     chain upsWithin powAbove powBelow powAcrossEven powAcrossOdd powAcross powBySign powOf
-    has sumOver sum validBelow endsProducts productsOf largestSquare squareSum squaresOf rootSum rootOf
+    has sumOver sumBelow validBelow endsProducts productsOf largestSquare squareSum squaresOf rootSum rootOf
     floorDiv ceilDiv floorQuot ceilQuot ceilSqrt floorSqrt rootBits ones onesIn trailingZeros
 all-right = refl

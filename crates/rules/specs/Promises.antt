@@ -8,11 +8,9 @@ use Prim.Native.Nat.{ℕ, _≤_, _<_}
 use lib.Dec.{T}
 use lib.IntN.{ℤ, pos}
 use lib.ListN.{getD, length}
-use Rattle.algebra.specs.Sum.{sum}
 use Rattle.codelist.specs.declared.Codelist.{Codelist}
-use Rattle.exact.specs.Rat.{ℚ, fromℤ, _*ℚ_, _≤ℚ_, 0ℚ}
+use Rattle.exact.specs.Rat.{ℚ, fromℤ, _*ℚ_, _≤ℚ_, 0ℚ, sumℚ}
 use Rattle.exact.specs.Units.{units, In}
-use Rattle.exact.proofs.Rat.{ℚ-ring}
 use Rattle.range.specs.declared.Range.{Range}
 use Rattle.range.specs.Limit.{zeroRange}
 use Rattle.range.specs.Sums.{has, at}
@@ -36,14 +34,14 @@ entry v a = fromℤ (getD v a (pos 0))
 
 -- "v'Hv is the sum of v_a·H_ab·v_b over all ordered pairs a, b, equal ones included", of n factors
 unfoldable pub quadratic : ℕ → (ℕ → ℕ → ℚ) → List ℤ → ℚ
-quadratic n H v = sum ℚ-ring n (λ a. sum ℚ-ring n (λ b. entry v a *ℚ H a b *ℚ entry v b))
+quadratic n H v = sumℚ n (λ a. sumℚ n (λ b. entry v a *ℚ H a b *ℚ entry v b))
 
 -- the sum of the squares of v over the set s, and over all n factors
 unfoldable pub squaresIn : ℕ → ℕ → List ℤ → ℚ
-squaresIn n s v = sum ℚ-ring n (λ a. cond (has s a) (entry v a *ℚ entry v a) 0ℚ)
+squaresIn n s v = sumℚ n (λ a. cond (has s a) (entry v a *ℚ entry v a) 0ℚ)
 
 unfoldable pub squaresAll : ℕ → List ℤ → ℚ
-squaresAll n v = sum ℚ-ring n (λ a. entry v a *ℚ entry v a)
+squaresAll n v = sumℚ n (λ a. entry v a *ℚ entry v a)
 
 -- y lies between the ends of r, each times q
 pub record Between (r : Range) (q y : ℚ) : Type 0 where

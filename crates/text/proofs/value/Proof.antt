@@ -7,8 +7,8 @@ use mir.Facts.{toZ-pos, toZ-ofZ}
 use mir.Syntax.{w64}
 use mir.Val.{SFits}
 use borrow.Author.Needs.{needs}
+use Rattle.algebra.proofs.Int.{neg-abs}
 use Rattle.codelist.specs.Load.{valueOf}
-use Rattle.exact.specs.Int.{neg-abs}
 use Rattle.exact.proofs.Machine.{fits-abs}
 use Rattle.text.proofs.value.Statement.{statement}
 use Rattle.text.proofs.value.Tie as tie

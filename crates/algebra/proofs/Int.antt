@@ -1,5 +1,4 @@
 -- The integers ℤ of `lib.IntN`, under the order `≤ℤ` of `lib.Signed`, are an ordered commutative ring (`ℤ-ring`, `ℤ-ordered`).
--- Nothing is defined here that a reader must believe: these laws stand in specs/ since ℚ is made from them.
 -- An equation is proved by `ring ℤ-ring`, and what follows linearly by `linarith ℤ-ordered`. What needs that between an integer and the
 -- next there is none is proved by `omega (ints, ..)`, which reads `≡`, `≤ℤ`, `<ℤ` of ℤ in the hypotheses and proves such a goal: an
 -- integer z is the difference posPart z − negPart z of two naturals. Each sum, negation and product of the statement that is not of
@@ -15,8 +14,8 @@ use mathlib.Core.Bool.{Bool, true, false, not, cond}
 use lib.Dec.{T, T-prop, ltb, ltb→lt, nltb→le, leb→le, le→leb, lt→ltb, nleb→lt}
 use lib.IntN.{ℤ, pos, negsuc, negℤ, natAbs, subℕ, _+ℤ_, _-ℤ_, _*ℤ_, ℤ-set, +ℤ-assoc, +ℤ-comm, +ℤ-idr, +ℤ-invr, *ℤ-comm}
 use lib.Signed.{_≤ℤ_, _<ℤ_, leZ, ≤ℤ-refl}
 use Rattle.algebra.specs.Ring.{CommRing}
-use Rattle.algebra.specs.Ordered.{OrderedRing, lt}
+use Rattle.algebra.specs.Ordered.{OrderedRing}
 
 -- ════ an integer as a difference ════
 
