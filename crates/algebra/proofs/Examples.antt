@@ -1,21 +1,17 @@
 -- Worked examples of the two solvers.
 use mathlib.Core.Path.{_≡_}
-use Rattle.algebra.proofs.Ring.{CommRing, pow}
+use Rattle.algebra.proofs.Ring.{CommRing}
 use Rattle.algebra.proofs.Ordered.{OrderedRing, lt}
-use Rattle.algebra.proofs.Solver.{lit, :0, :1, _:^_, _:+_, _:*_, _:-_, :-_, _:=_, ring}
-use Rattle.algebra.proofs.Linear.{_:≤_, _:<_, _:≡_, :⊥, _⇒_, ⊢_, linarith}
+use Rattle.algebra.proofs.Solver.{lit, :0, :1, _:+_, _:*_, :-_, _:=_, ring}
+use Rattle.algebra.proofs.Linear.{_:≤_, _:<_, :⊥, _⇒_, ⊢_, linarith}
 
 module _ {R : Type 0} (𝓞 : OrderedRing R) where
   infix 50 _≤_
   infix 50 _<_
   infixl 65 _+_
-  infixl 65 _-_
   infixl 70 _*_
   open OrderedRing 𝓞 using (commRing as 𝓡, le as _≤_)
   open CommRing (𝓞 .commRing) using (add as _+_, mul as _*_, neg, 𝟘, 𝟙, num)
-
-  abbrev _-_ : R → R → R
-  a - b = a + neg b
 
   abbrev _<_ : R → R → Type 0
   a < b = lt 𝓞 a b
@@ -24,33 +20,13 @@ module _ {R : Type 0} (𝓞 : OrderedRing R) where
   square : (a b : R) → (a + b) * (a + b) ≡ a * a + num 2 * (a * b) + b * b
   square = ring 𝓡 2 (λ a b. (a :+ b) :* (a :+ b) := a :* a :+ lit 2 :* (a :* b) :+ b :* b) tt
 
-  -- powers at numerals
-  cube : (a b : R) → pow 𝓡 (a - b) 3 ≡ pow 𝓡 a 3 - num 3 * (a * a * b) + num 3 * (a * pow 𝓡 b 2) - pow 𝓡 b 3
-  cube = ring 𝓡 2 (λ a b. (a :- b) :^ 3 := a :^ 3 :- lit 3 :* (a :* a :* b) :+ lit 3 :* (a :* b :^ 2) :- b :^ 3) tt
-
-  -- the sum of fractions a/b, c/d, e/f is associative, cross-multiplied
-  fractions : (a b c d e f : R) → ((a * d + c * b) * f + e * (b * d)) * (b * (d * f)) ≡ (a * (d * f) + (c * f + e * d) * b) * ((b * d) * f)
-  fractions =
-      ring 𝓡 6
-      (λ a b c d e f.
-      ((a :* d :+ c :* b) :* f :+ e :* (b :* d)) :* (b :* (d :* f)) := (a :* (d :* f) :+ (c :* f :+ e :* d) :* b) :* ((b :* d) :* f))
-      tt
-
   -- ── linarith
   chain : (a b c : R) → a ≤ b → b + b ≤ c + c → a ≤ c
   chain = linarith 𝓞 3 (λ a b c. a :≤ b ⇒ b :+ b :≤ c :+ c ⇒ ⊢ a :≤ c) tt
 
-  -- with an equation, a product as an unknown, and a constant
-  shifted : (x y z : R) → x * y ≤ z → z ≡ y + 𝟙 → 𝟘 ≤ y → num 2 * (x * y) ≤ num 3 * y + num 2
-  shifted = linarith 𝓞 3 (λ x y z. x :* y :≤ z ⇒ z :≡ y :+ :1 ⇒ :0 :≤ y ⇒ ⊢ lit 2 :* (x :* y) :≤ lit 3 :* y :+ lit 2) tt
-
   -- hypotheses that contradict one another prove anything
   contrary : (x y : R) → x + 𝟙 ≤ y → y ≤ x → x * x ≤ neg 𝟙
   contrary = linarith 𝓞 2 (λ x y. x :+ :1 :≤ y ⇒ y :≤ x ⇒ ⊢ x :* x :≤ :- :1) tt
-
-  -- an equation as the goal
-  equal : (x y z : R) → x + y ≤ z → z ≤ x + y → z - y ≡ x
-  equal = linarith 𝓞 3 (λ x y z. x :+ y :≤ z ⇒ z :≤ x :+ y ⇒ ⊢ z :- y :≡ x) (tt, tt)
 
   -- strict claims
   below : (x y z : R) → x < y → y + y ≤ z + x → x < z

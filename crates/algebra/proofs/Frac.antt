@@ -7,7 +7,7 @@ use mathlib.Core.Option.{Option, none, some}
 use Prim.Native.Nat.{ℕ, zero, suc, _*_, _<_}
 use native.Mathlib.Nat as N
 use lib.Dec.{T}
-use lib.IntN.{ℤ, pos, negsuc, negℤ, _+ℤ_, _*ℤ_, ℤ-set, *ℤ-comm, negℤ-negℤ}
+use lib.IntN.{ℤ, pos, negsuc, negℤ, _*ℤ_, ℤ-set, *ℤ-comm, negℤ-negℤ}
 use lib.Signed.{_≤ℤ_}
 use Rattle.algebra.proofs.Ring.{eq-by}
 use Rattle.algebra.proofs.Ordered as Ord

@@ -5,7 +5,7 @@
 -- literals is listed there with its equation: `add-dif a b`, `sub-dif a b`, `neg-dif a`, `mul-dif a b`.
 -- (`lib.Signed`'s `≤ℤ` and `<ℤ` bind tighter than `+ℤ` and `*ℤ`: hence the parentheses.)
 use mathlib.Core.Path.{_≡_, refl, sym, _∙_, ap}
-use mathlib.Core.Logic.{_↔_, _⊎_, inl, inr}
+use mathlib.Core.Logic.{_⊎_, inl, inr}
 use Prim.Native.Nat.{ℕ, zero, suc, _+_, _*_, _-_, _≤_, _<_}
 use native.Mathlib.Omega.{arith}
 use native.Mathlib.Numerals.{add-one}
@@ -213,13 +213,6 @@ pub ≤ℤ-total : (a b : ℤ) → (a ≤ℤ b) ⊎ (b ≤ℤ a)
     go : (a ≤ℤ b) ⊎ (b <ℤ a) → (a ≤ℤ b) ⊎ (b ≤ℤ a)
     go (inl h) = inl h
     go (inr h) = inr (<ℤ→≤ℤ h)
-
--- two integers that lie above the same integers, or below the same, are equal
-pub ≡-below : {a b : ℤ} → ((q : ℤ) → (q ≤ℤ a) ↔ (q ≤ℤ b)) → a ≡ b
-≡-below {a} {b} h = ≤ℤ-antisym (h a .0 (≤ℤ-refl a)) (h b .1 (≤ℤ-refl b))
-
-pub ≡-above : {a b : ℤ} → ((q : ℤ) → (a ≤ℤ q) ↔ (b ≤ℤ q)) → a ≡ b
-≡-above {a} {b} h = ≤ℤ-antisym (h b .1 (≤ℤ-refl b)) (h a .0 (≤ℤ-refl a))
 
 -- against ℕ
 pub pos-≤ : {m n : ℕ} → m ≤ n → pos m ≤ℤ pos n

@@ -56,10 +56,6 @@ module _ {R : Type 0} (𝓞 : OrderedRing R) where
   pub add-nonneg : {a b : R} → 𝟘 ≤ a → 𝟘 ≤ b → 𝟘 ≤ a + b
   add-nonneg h k = eq-le (ring 𝓡 0 (:0 := :0 :+ :0) tt) (add-mono h k)
 
-  -- more on the right
-  pub le-add : {a b : R} (c : R) → 𝟘 ≤ c → a ≤ b → a ≤ b + c
-  le-add {a} {b} c p h = le-by (add-nonneg (sub-nonneg h) p) (ring 𝓡 3 (λ a b c. b :+ c :- a := b :- a :+ c) tt a b c)
-
   pub neg-anti : {a b : R} → a ≤ b → neg b ≤ neg a
   neg-anti {a} {b} h = le-by (sub-nonneg h) (ring 𝓡 2 (λ a b. :- a :- :- b := b :- a) tt a b)
 

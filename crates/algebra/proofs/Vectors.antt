@@ -6,7 +6,7 @@ use Rattle.algebra.proofs.Solver.{lit, _:+_, _:*_, _:-_, :-_, _:=_, rin
 use Rattle.algebra.proofs.Ordered as Ord
 use Rattle.algebra.proofs.Ordered.{OrderedRing}
 use Rattle.algebra.proofs.Sum as Sum
-use Rattle.algebra.proofs.Sum.{sum, sumBelow}
+use Rattle.algebra.proofs.Sum.{sumBelow}
 unfoldable pub use Rattle.algebra.specs.Vectors.{dot}
 
 module _ {R : Type 0} (𝓡 : CommRing R) where

@@ -9,13 +9,13 @@ use mir.ValLaws.{toZ-ofZ}
 use Rattle.exact.proofs.Machine.{fits-abs}
 use Rattle.range.specs.declared.Range.{Range}
 use Rattle.range.specs.Laws.{Settled}
-use Rattle.range.proofs.Fitting.{Within, low-within, high-within, fits-narrow}
+use Rattle.range.proofs.Fitting.{InLimit, low-within, high-within, fits-narrow}
 
-pub ends-within : (r : Range) → Settled r → Within (r .low) × Within (r .high)
+pub ends-within : (r : Range) → Settled r → InLimit (r .low) × InLimit (r .high)
 ends-within r (inl v) = (low-within r v, high-within r v)
 ends-within r (inr e) = rw e (omega arith, omega arith)
 
-module _ (z : ℤ) (h : Within z) where
+module _ (z : ℤ) (h : InLimit z) where
   read : toZ w64 (ofZ w64 z) ≡ z
   read = toZ-ofZ w64 z (fits-abs z (omega (arith, h)))
 

@@ -1,5 +1,5 @@
 -- The laws of rounded division.
-use mathlib.Core.Path.{_≡_, refl, sym, _∙_, ap}
+use mathlib.Core.Path.{_≡_, refl}
 use mathlib.Core.Logic.{_↔_, _⊎_, inl, inr, ⊎-elim}
 use Prim.Native.Nat.{ℕ, zero, suc, _*_, _/_, _<_}
 use native.Mathlib.Nat as N
@@ -8,8 +8,8 @@ use lib.Signed.{_≤ℤ_, _<ℤ_, ≤ℤ-refl}
 use Rattle.algebra.proofs.Ordered as Ord
 use Rattle.algebra.proofs.Solver.{:1, _:+_, _:*_, _:=_, ring}
 use Rattle.algebra.proofs.Int.{ints, ℤ-ring, ℤ-ordered, posPart-neg, negPart-neg, add-dif, mul-dif, mul-pos-dif, <-pos}
-use Rattle.algebra.proofs.Int.{neg-≤, ≤-neg, neg-anti, neg-cancel, neg-*ℤ, *ℤ-neg, *ℤ-assoc, *ℤ-mono, *ℤ-cancel, *ℤ-cancel-<}
-use Rattle.algebra.proofs.Int.{≤ℤ-trans, ≤ℤ-<ℤ-trans, <suc→≤ℤ, ≡-below, ≤ℤ-or-<ℤ}
+use Rattle.algebra.proofs.Int.{neg-≤, ≤-neg, neg-anti, neg-cancel, neg-*ℤ, *ℤ-neg, *ℤ-mono, *ℤ-cancel, *ℤ-cancel-<}
+use Rattle.algebra.proofs.Int.{≤ℤ-trans, ≤ℤ-<ℤ-trans, <suc→≤ℤ, ≤ℤ-or-<ℤ}
 unfoldable pub use Rattle.exact.specs.Div.{floorDiv, ceilDiv, floorQuot, ceilQuot}
 pub use Rattle.exact.specs.Div.{bySign}
 
@@ -56,17 +56,6 @@ ceil-mono {a} {b} p h = ceil-iff _ a p .1 (≤ℤ-trans h (ceil-ge b p))
 
 pub floor≤ceil : (a : ℤ) {d : ℕ} → zero < d → floorDiv a d ≤ℤ ceilDiv a d
 floor≤ceil a {d} p = *ℤ-cancel d p (≤ℤ-trans (floor-le a p) (ceil-ge a p))
-
--- a factor common to the two cancels
-pub floor-cancel : (a : ℤ) {d k : ℕ} → zero < d → zero < k → floorDiv (a *ℤ pos k) (d * k) ≡ floorDiv a d
-floor-cancel a {d} {k} p r = ≡-below (λ q. (
-  λ h. floor-iff q a p .1 (*ℤ-cancel k r (rw (← (*ℤ-assoc q (pos d) (pos k))) at (floor-iff q (a *ℤ pos k) (N.mul-pos p r) .0 h))),
-  λ h. floor-iff q (a *ℤ pos k) (N.mul-pos p r) .1 (rw (← (*ℤ-assoc q (pos d) (pos k))) (*ℤ-mono k (floor-iff q a p .0 h))),
-))
-
-pub ceil-cancel : (a : ℤ) {d k : ℕ} → zero < d → zero < k → ceilDiv (a *ℤ pos k) (d * k) ≡ ceilDiv a d
-unfolding ceilDiv
-ceil-cancel a {d} {k} p r = ap negℤ (ap (λ x. floorDiv x (d * k)) (sym (neg-*ℤ a (pos k))) ∙ floor-cancel (negℤ a) p r)
 
 -- ════ by an integer of either sign ════
 
@@ -146,11 +135,3 @@ module _ {n d e : ℤ} (n-nonneg : pos 0 ≤ℤ n) (h : d ≤ℤ e) where
       nonzero : OneSign d e → ¬ (d ≡ pos 0)
       nonzero (inl p) z = omega ints
       nonzero (inr p) z = omega ints
-
--- all compute
-quotients : (floorDiv (pos 7) 2 ≡ pos 3) × (floorDiv (negsuc 6) 2 ≡ negsuc 3)
-    × (ceilDiv (pos 7) 2 ≡ pos 4) × (ceilDiv (negsuc 6) 2 ≡ negsuc 2)
-    × (floorDiv (negsuc 9223372036854775807) 10000 ≡ negsuc 922337203685477)
-    × (floorQuot (pos 100000000) (negsuc 29999) ≡ negsuc 3333) × (ceilQuot (pos 100000000) (negsuc 29999) ≡ negsuc 3332)
-unfolding floorDiv ceilDiv floorQuot ceilQuot
-quotients = (refl, refl, refl, refl, refl, refl, refl)

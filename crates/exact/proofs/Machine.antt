@@ -2,15 +2,15 @@
 -- that rounds down or up by a divisor above 0. Each step of −1 − (−1 − x) / d and of (x − 1) / d + 1 fits.
 use mathlib.Core.Path.{_≡_, refl, ap, _∙_}
 use mathlib.Core.Bool.{Bool, true, false}
-use Prim.Native.Nat.{ℕ, zero, suc, _+_, _/_, _^_, _≤_, _<_, zero-le}
+use Prim.Native.Nat.{ℕ, zero, suc, _+_, _/_, _≤_, _<_, zero-le}
 use native.Mathlib.Omega.{arith}
 use native.Mathlib.Nat.{div-le-self, zero-div}
 use borrow.Author.Tests.{ltb-true, ltb-false}
-use lib.Dec.{T, ltb, ltb→lt, leb→le}
+use lib.Dec.{T}
 use lib.IntN.{ℤ, pos, negsuc, negℤ, natAbs, _+ℤ_, _-ℤ_, +ℤ-one, -ℤ-one, +ℤ-comm}
 use lib.Signed.{leZ, ltZ, ltZ-no, mag, quotZ, _≤ℤ_, _<ℤ_}
-use mir.Syntax.{Width, w64}
-use mir.Val.{SFits, hbits, ofZ}
+use mir.Syntax.{w64}
+use mir.Val.{SFits, ofZ}
 use mir.ValLaws.{sfits-le}
 use Rattle.algebra.proofs.Int.{ints, posPart, negPart, ≤-out, ≤-in, <-out, <-in, leZ-no}
 use Rattle.exact.proofs.Div.{floorDiv, ceilDiv}
@@ -65,11 +65,6 @@ pub ruleset tests = (ints, leZ-out, nleZ-out, ltZ-out, nltZ-out, leZ-in, ltZ-in)
 pub fits-abs : (z : ℤ) → natAbs z ≤ 9223372036854775807 → SFits w64 z
 fits-abs (pos n) h = omega arith
 fits-abs (negsuc n) h = omega arith
-
--- a number between −(m + 1) and m, with m below half the type's range, as a comparison that computes
-pub fits-between : {w : Width} {z : ℤ} (m : ℕ) → T (ltb m (2 ^ hbits w)) → negsuc m ≤ℤ z → z ≤ℤ pos m → SFits w z
-fits-between {w} {z = pos n} m t l h = record { sfits = omega (arith, leb→le n m (h .le), ltb→lt m (2 ^ hbits w) t) }
-fits-between {w} {z = negsuc n} m t l h = record { sfits = omega (arith, leb→le n m (l .le), ltb→lt m (2 ^ hbits w) t) }
 
 -- ---- −1 − x, which fits where x does
 flip-pos : (n : ℕ) → negsuc 0 -ℤ pos n ≡ negsuc n

@@ -1,23 +1,22 @@
 -- The rational numbers are an ordered field: the laws of ℚ, of its order and of its reciprocal.
-use mathlib.Core.Path.{_≡_, refl, sym, _∙_, ap, ap₂, subst}
+use mathlib.Core.Path.{_≡_, refl, sym, _∙_, ap, ap₂}
 use mathlib.Core.Logic.{_↔_, _⊎_, inl, inr}
 use mathlib.Core.HLevel.{→-prop}
 use mathlib.Core.Bool.{Bool, true, false, not}
 use mathlib.Core.Option.{Option, none, some}
 use mathlib.Core.Quot.{Quotient·exact, ind}
-use Prim.Native.Nat.{ℕ, zero, suc, _*_, _<_}
+use Prim.Native.Nat.{ℕ, zero, _*_, _<_}
 use native.Mathlib.Nat as N
 use native.Mathlib.Numerals.{add-one}
-use lib.Dec.{T, T-prop, lit<, T-not, not-T}
-use lib.IntN.{ℤ, pos, negsuc, negℤ, _+ℤ_, _*ℤ_}
+use lib.Dec.{T, T-prop, T-not, not-T}
+use lib.IntN.{ℤ, pos, negℤ, _+ℤ_, _*ℤ_}
 use lib.Signed.{_≤ℤ_, ≤ℤ-refl}
 use Rattle.algebra.proofs.Ring as Ring
 use Rattle.algebra.proofs.Ring.{CommRing}
 use Rattle.algebra.proofs.Ordered as Ord
 use Rattle.algebra.proofs.Ordered.{OrderedRing}
 use Rattle.algebra.proofs.Solver.{_:+_, _:*_, _:-_, :-_, _:=_, ring}
-use Rattle.algebra.proofs.Linear.{_:≤_, _:≡_, _⇒_, ⊢_, linarith}
-use Rattle.algebra.proofs.Int.{ints, mul-pos-dif, ℤ-ring, *ℤ-one, *ℤ-assoc, ≤ℤ-antisym, <ℤ→≤ℤ, leZ-no}
+use Rattle.algebra.proofs.Int.{ℤ-ring, *ℤ-one, ≤ℤ-antisym, <ℤ→≤ℤ, leZ-no}
 use Rattle.algebra.proofs.Frac as F
 use Rattle.algebra.proofs.Frac.{Frac, _≃_, _≼_, whole}
 use Rattle.exact.specs.Rat.{Frac-setoid, mk, mkᵒ, sound}
@@ -100,9 +99,6 @@ abbrev pub ℚ-ring : CommRing ℚ
       num-zero = refl;
       num-suc = λ n. sym (fromℤ-+ (pos n) (pos 1) ∙ ap (λ k. fromℤ (pos k)) (add-one n));
     }
-
-pub zero-+ℚ : (x : ℚ) → 0ℚ +ℚ x ≡ x
-zero-+ℚ = Ring.zero-add ℚ-ring
 
 pub one-*ℚ : (x : ℚ) → 1ℚ *ℚ x ≡ x
 one-*ℚ = Ring.one-mul ℚ-ring
@@ -234,20 +230,6 @@ recip-some x {y} h = go (recip x) (recip-law x)
     go none e = absurd (0≢1 (sym (zero-*ℚ y) ∙ ap (λ t. t *ℚ y) (sym e) ∙ h))
     go (some z) k = ap some (recip-unique x k h)
 
-pub recip-mul : (x : ℚ) {y : ℚ} → recip x ≡ some y → x *ℚ y ≡ 1ℚ
-recip-mul x {y} e = subst (Recip x) e (recip-law x)
-
-pub recip-zero : recip 0ℚ ≡ none
-unfolding recip fromℤ
-recip-zero = refl
-
-pub recip-of-≢ : (x : ℚ) → ¬ (x ≡ 0ℚ) → (y : ℚ) × (x *ℚ y ≡ 1ℚ)
-recip-of-≢ x f = go (recip x) (recip-law x)
-  where
-    go : (o : Option ℚ) → Recip x o → (y : ℚ) × (x *ℚ y ≡ 1ℚ)
-    go none e = absurd (f e)
-    go (some y) h = (y, h)
-
 -- ════ the ordered ring ════
 
 pub zero-cases : (x y : ℚ) → x *ℚ y ≡ 0ℚ → (x ≡ 0ℚ) ⊎ (y ≡ 0ℚ)
@@ -335,98 +317,6 @@ pub fromℤ-is : (a : ℤ) → fromℤ a ≡ ratio a 1 (N.zero-lt-suc zero)
 unfolding fromℤ ratio
 fromℤ-is a = refl
 
-pub ratio-zero : (a : ℤ) {d : ℕ} (p : zero < d) → (ratio a d p ≡ 0ℚ) ↔ (a ≡ pos 0)
-ratio-zero a {d} p = (
-  λ e. let h = ratio-≡ a (pos 0) p _ .0 (e ∙ fromℤ-is (pos 0)) in omega (ints, mul-pos-dif a 1),
-  λ e. ratio-≡ a (pos 0) p _ .1 (rw e (omega ints)) ∙ sym (fromℤ-is (pos 0)),
-)
-
-pub ratio-times : (a : ℤ) {d : ℕ} (p : zero < d) → ratio a d p *ℚ fromℤ (pos d) ≡ fromℤ a
-unfolding fromℤ ratio _*ℚ_
-ratio-times a {d} p = sound (record { cross = *ℤ-one _ ∙ ap (λ n. a *ℤ pos n) (sym (N.mul-one d)) })
-
 pub fromℤ-* : (a b : ℤ) → fromℤ a *ℚ fromℤ b ≡ fromℤ (a *ℤ b)
 unfolding fromℤ _*ℚ_
 fromℤ-* a b = sound (F.same refl refl)
-
-pub fromℤ-neg : (a : ℤ) → negℚ (fromℤ a) ≡ fromℤ (negℤ a)
-unfolding fromℤ negℚ
-fromℤ-neg a = refl
-
--- ════ division ════
-
-abbrev pub timesᵒ : ℚ → Option ℚ → Option ℚ
-timesᵒ x none = none
-timesᵒ x (some z) = some (x *ℚ z)
-
--- x ÷ y has no value at y = 0, and else is the one number whose product with y is x (`÷-zero`, `÷-some`, `÷-mul`)
-infixl 7 _÷_
-unfoldable pub _÷_ : ℚ → ℚ → Option ℚ
-x ÷ y = timesᵒ x (recip y)
-
-pub ÷-zero : (x : ℚ) → x ÷ 0ℚ ≡ none
-unfolding _÷_
-÷-zero x = ap (timesᵒ x) recip-zero
-
-pub ÷-some : (x y : ℚ) {z : ℚ} → ¬ (y ≡ 0ℚ) → z *ℚ y ≡ x → x ÷ y ≡ some z
-unfolding _÷_
-÷-some x y {z} f h = go (recip y) (recip-law y)
-  where
-    go : (o : Option ℚ) → Recip y o → timesᵒ x o ≡ some z
-    go none e = absurd (f e)
-    go (some w) e = ap some (ap (λ t. t *ℚ w) (sym h) ∙ *ℚ-assoc z y w ∙ ap (λ t. z *ℚ t) e ∙ *ℚ-one z)
-
-pub ÷-mul : (x y : ℚ) {z : ℚ} → x ÷ y ≡ some z → z *ℚ y ≡ x
-unfolding _÷_
-÷-mul x y {z} h = go (recip y) (recip-law y) h
-  where
-    go : (o : Option ℚ) → Recip y o → timesᵒ x o ≡ some z → z *ℚ y ≡ x
-    go none e k = cc
-    go (some w) e k =
-        let i : x *ℚ w ≡ z = cc in
-        ap (λ t. t *ℚ y) (sym i) ∙ *ℚ-assoc x w y ∙ ap (λ t. x *ℚ t) (*ℚ-comm w y ∙ e) ∙ *ℚ-one x
-
--- a / d, of either sign
-abbrev pub quotient : ℤ → ℤ → Option ℚ
-quotient a (pos zero) = none
-quotient a (pos (suc n)) = some (ratio a (suc n) (N.zero-lt-suc n))
-quotient a (negsuc n) = some (ratio (negℤ a) (suc n) (N.zero-lt-suc n))
-
--- a / k by d / k is a / d
-ratio-by : (a b d : ℤ) {m k : ℕ} (p : zero < m) (r : zero < k) → ¬ (d ≡ pos 0) → b *ℤ d ≡ a *ℤ pos m
-    → ratio a k r ÷ ratio d k r ≡ some (ratio b m p)
-ratio-by a b d {m} {k} p r f e =
-    ÷-some (ratio a k r) (ratio d k r) (λ z. f (ratio-zero d r .0 z))
-    (ratio-* b d p r ∙ ratio-≡ (b *ℤ d) a (N.mul-pos p r) r .1 (ap (λ t. t *ℤ pos k) e ∙ *ℤ-assoc a (pos m) (pos k)))
-
-pub ratio-÷ : (a d : ℤ) {k : ℕ} (r : zero < k) → ratio a k r ÷ ratio d k r ≡ quotient a d
-ratio-÷ a (pos zero) {k} r = ap (λ t. ratio a k r ÷ t) (ratio-zero (pos 0) r .1 refl) ∙ ÷-zero (ratio a k r)
-ratio-÷ a (pos (suc n)) r = ratio-by a a (pos (suc n)) (N.zero-lt-suc n) r (λ e. omega ints) refl
-ratio-÷ a (negsuc n) r =
-    ratio-by a (negℤ a) (negsuc n) (N.zero-lt-suc n) r (λ e. omega ints) (ring ℤ-ring 2 (λ a d. :- a :* :- d := a :* d) tt a (pos (suc n)))
-
--- ════ examples ════
-
--- the solvers serve at rational numbers
-difference-of-squares : (x y : ℚ) → (x +ℚ y) *ℚ (x -ℚ y) ≡ x *ℚ x -ℚ y *ℚ y
-difference-of-squares = ring ℚ-ring 2 (λ x y. (x :+ y) :* (x :- y) := x :* x :- y :* y) tt
-
-mean : (x y m : ℚ) → x ≤ℚ y → m +ℚ m ≡ x +ℚ y → m ≤ℚ y
-mean = linarith ℚ-ordered 3 (λ x y m. x :≤ y ⇒ m :+ m :≡ x :+ y ⇒ ⊢ m :≤ y) tt
-
--- closed terms compute
-third-and-sixth : ratio (pos 1) 3 (lit< tt) +ℚ ratio (pos 1) 6 (lit< tt) ≤ℚ ratio (pos 1) 2 (lit< tt)
-unfolding ratio _+ℚ_ leQ
-third-and-sixth = record { le = tt }
-
-is-half : ratio (pos 1) 3 (lit< tt) +ℚ ratio (pos 1) 6 (lit< tt) ≡ ratio (pos 1) 2 (lit< tt)
-unfolding ratio _+ℚ_ leQ
-is-half = ≤ℚ-antisym (record { le = tt }) (record { le = tt })
-
-long : ratio (pos 9223372036854775807) 10000 (lit< tt) *ℚ ratio (negsuc 9223372036854775807) 10000 (lit< tt) <ℚ ratio (negsuc 0) 3 (lit< tt)
-unfolding ratio _*ℚ_ leQ
-long = record { lt = tt }
-
-recip-2/3 : recip (ratio (negsuc 1) 3 (lit< tt)) ≡ some (ratio (negsuc 2) 2 (lit< tt))
-unfolding ratio recip
-recip-2/3 = ap some (sound (F.same refl refl))

@@ -1,7 +1,7 @@
 -- The square roots of specs/Sqrt are what their records say, and keep the order.
-use mathlib.Core.Path.{_≡_, refl}
+use mathlib.Core.Path.{_≡_}
 use mathlib.Core.Bool.{Bool, true, false, not, cond}
-use Prim.Native.Nat.{ℕ, zero, suc, _+_, _*_, _/_, _^_, _≤_, _<_, zero-le}
+use Prim.Native.Nat.{ℕ, zero, suc, _+_, _*_, _/_, _≤_, _<_, zero-le}
 use native.Mathlib.Omega.{arith}
 use native.Mathlib.Nat as N
 use lib.Dec.{T, leb, leb→le, nleb→lt}
@@ -45,8 +45,3 @@ ceil-root-unique {n} {r} {s} i j = N.le-antisymm (i .least s (j .high)) (j .leas
 
 pub ceil-root-mono : {m n : ℕ} → m ≤ n → ceilSqrt m ≤ ceilSqrt n
 ceil-root-mono {m} {n} h = ceil-root m .least _ (N.le-trans h (ceil-root n .high))
-
-roots : (ceilSqrt 0 ≡ 0) × (ceilSqrt 16 ≡ 4) × (ceilSqrt 17 ≡ 5)
-    × (ceilSqrt 9223372036854775807 ≡ 3037000500) × (ceilSqrt (10 ^ 36) ≡ 10 ^ 18)
-unfolding rootBits floorSqrt ceilSqrt
-roots = (refl, refl, refl, refl, refl)

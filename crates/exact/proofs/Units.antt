@@ -1,99 +1,21 @@
--- Units: what the exact operations on them come to in integers, and that rounding to units is what specs/Units says of it.
+-- Units: what the exact operations on them come to in integers, and that rounded division of integers rounds them outward.
 use mathlib.Core.Path.{_≡_, refl, sym, _∙_, ap}
 use mathlib.Core.Logic.{_↔_, inl, inr, ⊎-elim}
-use mathlib.Core.Option.{some}
-use mathlib.Core.Quot.{Quot·lift, ind}
-use mathlib.Core.HLevel.{×-prop, →-prop}
 use Prim.Native.Nat.{ℕ, zero, suc, _*_, _<_}
 use native.Mathlib.Nat as N
-use lib.Dec.{lit<}
-use lib.IntN.{ℤ, pos, negsuc, negℤ, _+ℤ_, _*ℤ_, ℤ-set, negℤ-negℤ}
+use lib.IntN.{ℤ, pos, negsuc, negℤ, _+ℤ_, _*ℤ_}
 use lib.Signed.{_≤ℤ_, _<ℤ_, clashℤ}
 use Rattle.algebra.proofs.Ordered as Ord
 use Rattle.algebra.proofs.Solver.{_:*_, :-_, _:=_, ring}
 use Rattle.algebra.proofs.Sum.{sum, sumBelow}
-use Rattle.algebra.proofs.Int.{ints, ℤ-ring, mul-pos-dif, neg-dif, neg-≤, neg-*ℤ, *ℤ-one, *ℤ-mono, ≤ℤ-of-≡, ≤ℤ-prop, ≡-below, ≡-above}
-use Rattle.algebra.proofs.Frac.{Frac, _≃_, _≼_, whole, ≼-trans, ≼-of-≃, ≃-sym}
-use Rattle.exact.proofs.Div.{floorDiv, ceilDiv, bySign, floorQuot, ceilQuot, floor-iff, ceil-iff, floor-mono, ceil-mono}
-use Rattle.exact.proofs.Div.{floor-cancel, ceil-cancel, OneSign}
+use Rattle.algebra.proofs.Int.{ints, ℤ-ring, mul-pos-dif, neg-dif, *ℤ-assoc, *ℤ-mono, ≤ℤ-of-≡, ≤ℤ-trans}
+use Rattle.exact.proofs.Div.{floorDiv, ceilDiv, floorQuot, ceilQuot, floor-le, ceil-ge, OneSign}
 use Rattle.exact.proofs.Rat as Q
-use Rattle.exact.proofs.Rat.{ℚ, fromℤ, ratio, negℚ, _+ℚ_, _*ℚ_, _≤ℚ_, _<ℚ_, leQ, 0ℚ, 1ℚ, _÷_, ℚ-ring, ℚ-ordered, ≤-mk, ≤-frac}
-use Rattle.exact.proofs.Rat.{ratio-≤, ratio-≡, ratio-+same, ratio-*, ratio-neg, ratio-÷, ratio-times, quotient}
-use Rattle.exact.proofs.Rat.{fromℤ-is, fromℤ-neg, negℚ-anti}
+use Rattle.exact.proofs.Rat.{ℚ, fromℤ, ratio, negℚ, _+ℚ_, _*ℚ_, _≤ℚ_, _<ℚ_, 0ℚ, 1ℚ, ℚ-ring, ℚ-ordered}
+use Rattle.exact.proofs.Rat.{ratio-≤, ratio-≡, ratio-+same, ratio-*, ratio-neg}
+use Rattle.exact.proofs.Rat.{fromℤ-is, negℚ-anti}
 pub use Rattle.exact.specs.Units.{scale, scale-pos, In}
 unfoldable pub use Rattle.exact.specs.Units.{units}
-
--- ════ rounding ════
-
--- of a fraction, rounded down; equal fractions have the same
-abbrev pub floorF : Frac → ℤ
-floorF x = floorDiv (x .num) (x .den)
-
-pub floorF-iff : (q : ℤ) (x : Frac) → (q ≤ℤ floorF x) ↔ (whole q ≼ x)
-floorF-iff q x = rw (*ℤ-one (x .num)) (floor-iff q (x .num) (x .den-pos))
-
-pub floorF-cong : {x y : Frac} → x ≃ y → floorF x ≡ floorF y
-floorF-cong {x} {y} p = ≡-below (λ q. (
-  λ h. floorF-iff q y .1 (≼-trans (whole q) x y (floorF-iff q x .0 h) (≼-of-≃ x y p)),
-  λ h. floorF-iff q x .1 (≼-trans (whole q) y x (floorF-iff q y .0 h) (≼-of-≃ y x (≃-sym p))),
-))
-
--- the greatest integer that is at most x
-unfoldable pub floorℚ : ℚ → ℤ
-floorℚ x = Quot·lift ℤ-set floorF (λ a b p. floorF-cong p) x
-
--- the least integer that is at least x
-unfoldable pub ceilℚ : ℚ → ℤ
-ceilℚ x = negℤ (floorℚ (negℚ x))
-
--- the greatest number of units that is at most x, and the least that is at least x (`down-iff`, `up-iff`)
-unfoldable pub down : ℚ → ℤ
-down x = floorℚ (x *ℚ fromℤ (pos scale))
-
-unfoldable pub up : ℚ → ℤ
-up x = ceilℚ (x *ℚ fromℤ (pos scale))
-
--- ════ to an integer ════
-
-pub floorℚ-iff : (q : ℤ) (x : ℚ) → (q ≤ℤ floorℚ x) ↔ (fromℤ q ≤ℚ x)
-unfolding floorℚ fromℤ
-floorℚ-iff q =
-    ind (λ x. ×-prop (→-prop (Q.≤ℚ-prop (fromℤ q) x)) (→-prop ≤ℤ-prop))
-    (λ a. (λ h. ≤-mk (floorF-iff q a .0 h), λ h. floorF-iff q a .1 (≤-frac (whole q) a h)))
-
-pub ceilℚ-iff : (q : ℤ) (x : ℚ) → (ceilℚ x ≤ℤ q) ↔ (x ≤ℚ fromℤ q)
-unfolding ceilℚ
-ceilℚ-iff q x = (λ h. there (floorℚ-iff (negℤ q) (negℚ x) .0 (neg-≤ h)), λ h. neg-≤ (floorℚ-iff (negℤ q) (negℚ x) .1 (back h)))
-  where
-    there : fromℤ (negℤ q) ≤ℚ negℚ x → x ≤ℚ fromℤ q
-    there h = rw (Q.negℚ-negℚ x, fromℤ-neg (negℤ q), negℤ-negℤ q) at (negℚ-anti h)
-
-    back : x ≤ℚ fromℤ q → fromℤ (negℤ q) ≤ℚ negℚ x
-    back h = rw (fromℤ-neg q) at (negℚ-anti h)
-
--- ════ to a whole number of units ════
-
-scaleℚ-pos : 0ℚ <ℚ fromℤ (pos scale)
-unfolding fromℤ leQ
-scaleℚ-pos = record { lt = tt }
-
-units-scale : (u : ℤ) → units u *ℚ fromℤ (pos scale) ≡ fromℤ u
-unfolding units
-units-scale u = ratio-times u scale-pos
-
-pub down-iff : (q : ℤ) (x : ℚ) → (q ≤ℤ down x) ↔ (units q ≤ℚ x)
-unfolding down
-down-iff q x = (
-  λ h. Q.*ℚ-cancel-≤ scaleℚ-pos (rw units-scale (floorℚ-iff q _ .0 h)),
-  λ h. floorℚ-iff q _ .1 (rw units-scale at (Q.*ℚ-monoʳ _ (Q.<ℚ→≤ℚ scaleℚ-pos) h)),
-)
-
-pub up-iff : (q : ℤ) (x : ℚ) → (up x ≤ℤ q) ↔ (x ≤ℚ units q)
-unfolding up
-up-iff q x = (
-  λ h. Q.*ℚ-cancel-≤ scaleℚ-pos (rw units-scale (ceilℚ-iff q _ .0 h)),
-  λ h. ceilℚ-iff q _ .1 (rw units-scale at (Q.*ℚ-monoʳ _ (Q.<ℚ→≤ℚ scaleℚ-pos) h)),
-)
 
 -- ---- the operations on units, in integers
 pub units-≤ : (u v : ℤ) → (units u ≤ℚ units v) ↔ (u ≤ℤ v)
@@ -159,77 +81,57 @@ pub products-≤ : (u v w z : ℤ) → (u *ℤ v) ≤ℤ (w *ℤ z) → units u 
 unfolding units
 products-≤ u v w z h = rw (ratio-* u v, ratio-* w z) (ratio-≤ (u *ℤ v) (w *ℤ z) _ _ .1 (*ℤ-mono (scale * scale) h))
 
--- a fraction, rounded to units
-pub down-ratio : (a : ℤ) {d : ℕ} (p : zero < d) → down (ratio a d p) ≡ floorDiv (a *ℤ pos scale) d
-unfolding units
-down-ratio a {d} p = ≡-below (λ q. (
-  λ h. floor-iff q (a *ℤ pos scale) p .1 (ratio-≤ q a scale-pos p .0 (down-iff q (ratio a d p) .0 h)),
-  λ h. down-iff q (ratio a d p) .1 (ratio-≤ q a scale-pos p .1 (floor-iff q (a *ℤ pos scale) p .0 h)),
-))
-
-pub up-ratio : (a : ℤ) {d : ℕ} (p : zero < d) → up (ratio a d p) ≡ ceilDiv (a *ℤ pos scale) d
-unfolding units
-up-ratio a {d} p = ≡-above (λ q. (
-  λ h. ceil-iff q (a *ℤ pos scale) p .1 (ratio-≤ a q p scale-pos .0 (up-iff q (ratio a d p) .0 h)),
-  λ h. up-iff q (ratio a d p) .1 (ratio-≤ a q p scale-pos .1 (ceil-iff q (a *ℤ pos scale) p .0 h)),
-))
-
--- a product
-pub down-* : (u v : ℤ) → down (units u *ℚ units v) ≡ floorDiv (u *ℤ v) scale
-unfolding units
-down-* u v =
-    ap down (ratio-* u v scale-pos scale-pos) ∙ down-ratio (u *ℤ v) (N.mul-pos scale-pos scale-pos)
-    ∙ floor-cancel (u *ℤ v) scale-pos scale-pos
-
-pub up-* : (u v : ℤ) → up (units u *ℚ units v) ≡ ceilDiv (u *ℤ v) scale
-unfolding units
-up-* u v =
-    ap up (ratio-* u v scale-pos scale-pos) ∙ up-ratio (u *ℤ v) (N.mul-pos scale-pos scale-pos)
-    ∙ ceil-cancel (u *ℤ v) scale-pos scale-pos
-
 -- what is at most u·v, divided by 10,000 and rounded down, is at most the product in units; likewise up
 pub floor-below : {z : ℤ} (u v : ℤ) → z ≤ℤ (u *ℤ v) → units (floorDiv z scale) ≤ℚ units u *ℚ units v
-floor-below {z} u v h = down-iff (floorDiv z scale) (units u *ℚ units v) .0 (rw (down-* u v) (floor-mono scale-pos h))
+unfolding units
+floor-below {z} u v h =
+    let q = floorDiv z scale in
+    rw (ratio-* u v)
+    (ratio-≤ q (u *ℤ v) _ _ .1
+    (≤ℤ-trans (≤ℤ-of-≡ (sym (*ℤ-assoc q (pos scale) (pos scale)))) (*ℤ-mono scale (≤ℤ-trans (floor-le z scale-pos) h))))
 
 pub ceil-above : {z : ℤ} (u v : ℤ) → (u *ℤ v) ≤ℤ z → units u *ℚ units v ≤ℚ units (ceilDiv z scale)
-ceil-above {z} u v h = up-iff (ceilDiv z scale) (units u *ℚ units v) .0 (rw (up-* u v) (ceil-mono scale-pos h))
-
--- a quotient, rounded to units. By 0 there is no x
-pub units-÷ : (u v : ℤ) → units u ÷ units v ≡ quotient u v
 unfolding units
-units-÷ u v = ratio-÷ u v scale-pos
-
--- a rounding of quotients, from what it gives at fractions
-rounds : (f : ℚ → ℤ) (div : ℤ → ℕ → ℤ) → ((a : ℤ) (d : ℕ) (p : zero < d) → f (ratio a d p) ≡ div (a *ℤ pos scale) d)
-    → (a d : ℤ) {x : ℚ} → quotient a d ≡ some x → f x ≡ bySign div (a *ℤ pos scale) d
-rounds f div r a (pos zero) e = cc
-rounds f div r a (pos (suc n)) {x} e = let i : ratio a (suc n) (N.zero-lt-suc n) ≡ x = cc in ap f (sym i) ∙ r a (suc n) (N.zero-lt-suc n)
-rounds f div r a (negsuc n) {x} e =
-    let i : ratio (negℤ a) (suc n) (N.zero-lt-suc n) ≡ x = cc in
-    ap f (sym i) ∙ r (negℤ a) (suc n) (N.zero-lt-suc n) ∙ ap (λ b. div b (suc n)) (neg-*ℤ a (pos scale))
-
-module _ (a d : ℤ) {x : ℚ} where
-  pub down-÷ : units a ÷ units d ≡ some x → down x ≡ floorQuot (a *ℤ pos scale) d
-  unfolding floorQuot
-  down-÷ e = rounds down floorDiv (λ b k p. down-ratio b p) a d (sym (units-÷ a d) ∙ e)
-
-  pub up-÷ : units a ÷ units d ≡ some x → up x ≡ ceilQuot (a *ℤ pos scale) d
-  unfolding ceilQuot
-  up-÷ e = rounds up ceilDiv (λ b k p. up-ratio b p) a d (sym (units-÷ a d) ∙ e)
+ceil-above {z} u v h =
+    let q = ceilDiv z scale in
+    rw (ratio-* u v)
+    (ratio-≤ (u *ℤ v) q _ _ .1
+    (≤ℤ-trans (*ℤ-mono scale (≤ℤ-trans h (ceil-ge z scale-pos))) (≤ℤ-of-≡ (*ℤ-assoc q (pos scale) (pos scale)))))
 
 -- ════ ranges of units, rounded outward ════
 
 pub in-neg : {a b : ℤ} {x : ℚ} → In a b x → In (negℤ b) (negℤ a) (negℚ x)
 in-neg {a} {b} i = record { low = neg-lower b (i .high); high = neg-upper a (i .low) }
 
--- the reciprocal of c units, and its roundings
+-- a/k is the reciprocal of c units if c·a is 10,000·k, and lies between 10,000·a divided by k rounded down and up
+module _ (c a : ℤ) {k : ℕ} (p : zero < k) where
+  recip-at : c *ℤ a *ℤ pos 1 ≡ pos 1 *ℤ pos (scale * k) → units c *ℚ ratio a k p ≡ 1ℚ
+  unfolding units
+  recip-at e = ratio-* c a scale-pos p ∙ ratio-≡ (c *ℤ a) (pos 1) _ _ .1 e ∙ sym (fromℤ-is (pos 1))
+
+  rounded-down : units (floorDiv (a *ℤ pos scale) k) ≤ℚ ratio a k p
+  unfolding units
+  rounded-down = ratio-≤ _ a scale-pos p .1 (floor-le (a *ℤ pos scale) p)
+
+  rounded-up : ratio a k p ≤ℚ units (ceilDiv (a *ℤ pos scale) k)
+  unfolding units
+  rounded-up = ratio-≤ a _ p scale-pos .1 (ceil-ge (a *ℤ pos scale) p)
+
+-- the reciprocal of c units lies between 100,000,000 divided by c rounded down and up
 units-recip : (c : ℤ) → ¬ (units c ≡ 0ℚ)
-    → (z : ℚ) × (units c *ℚ z ≡ 1ℚ) × (down z ≡ floorQuot (pos 100000000) c) × (up z ≡ ceilQuot (pos 100000000) c)
-units-recip c f =
-    let r = Q.recip-of-≢ (units c) f in
-    let q : units (pos 10000) ÷ units c ≡ some (r .0) =
-    Q.÷-some (units (pos 10000)) (units c) f (Q.*ℚ-comm (r .0) (units c) ∙ r .1 ∙ sym units-1) in
-    (r .0, r .1, down-÷ (pos 10000) c q, up-÷ (pos 10000) c q)
+    → (z : ℚ) × (units c *ℚ z ≡ 1ℚ) × (units (floorQuot (pos 100000000) c) ≤ℚ z) × (z ≤ℚ units (ceilQuot (pos 100000000) c))
+unfolding floorQuot ceilQuot
+units-recip (pos zero) f = absurd (f units-0)
+units-recip (pos (suc n)) f =
+    let c = pos (suc n) in
+    let a = pos 10000 in
+    let p = N.zero-lt-suc n in
+    (ratio a (suc n) p, recip-at c a p (omega ints), rounded-down c a p, rounded-up c a p)
+units-recip (negsuc n) f =
+    let c = negsuc n in
+    let a = negsuc 9999 in
+    let p = N.zero-lt-suc n in
+    (ratio a (suc n) p, recip-at c a p (omega ints), rounded-down c a p, rounded-up c a p)
 
 -- two numbers between ends of one sign have a positive product
 positive : {a b : ℤ} {x : ℚ} → pos 0 <ℤ a → In a b x → Ord.lt ℚ-ordered 0ℚ x
@@ -247,9 +149,9 @@ pub in-recip : {a b : ℤ} {x y : ℚ} → OneSign a b → In a b x → x *ℚ y
     → In (floorQuot (pos 100000000) b) (ceilQuot (pos 100000000) a) y
 in-recip {a} {b} s i e = record {
   low = let r = units-recip b (nonzero last) in
-      Q.≤ℚ-trans (down-iff _ (r .0) .0 (≤ℤ-of-≡ (sym (r .2)))) (Q.recip-anti (same-sign s i last) (i .high) e (r .1));
+      Q.≤ℚ-trans (r .2) (Q.recip-anti (same-sign s i last) (i .high) e (r .1));
   high = let r = units-recip a (nonzero first) in
-      Q.≤ℚ-trans (Q.recip-anti (same-sign s first i) (i .low) (r .1) e) (up-iff _ (r .0) .0 (≤ℤ-of-≡ (r .3)));
+      Q.≤ℚ-trans (Q.recip-anti (same-sign s first i) (i .low) (r .1) e) (r .3);
 }
   where
     first : In a b (units a)
@@ -260,9 +162,3 @@ in-recip {a} {b} s i e = record {
 
     nonzero : {z : ℚ} → In a b z → ¬ (z ≡ 0ℚ)
     nonzero {z} k f = Q.≤ℚ-not-< (Q.≤ℚ-of-≡ (ap (λ t. t *ℚ z) f ∙ Q.zero-*ℚ z)) (same-sign s k k)
-
--- closed terms compute: 1.5 * (−0.3333) and 2 / 3, both ways
-rounded : (down (units (pos 15000) *ℚ units (negsuc 3332)) ≡ negsuc 4999) × (up (units (pos 15000) *ℚ units (negsuc 3332)) ≡ negsuc 4998)
-    × (down (ratio (pos 2) 3 (lit< tt)) ≡ pos 6666) × (up (ratio (pos 2) 3 (lit< tt)) ≡ pos 6667)
-unfolding down up units ratio floorℚ ceilℚ fromℤ _*ℚ_ negℚ floorDiv
-rounded = (refl, refl, refl, refl)

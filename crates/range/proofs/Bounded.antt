@@ -13,7 +13,7 @@ use Rattle.range.specs.Arithmetic.{endsSum, sumOf, endsNeg, negOf, endsT
 use Rattle.range.specs.Inclusion.{_∈_, num}
 use Rattle.range.proofs.Extremes.{lesser-left, lesser-right, greater-left, greater-right, end-products}
 use Rattle.exact.proofs.Units.{units-0, units-mono, units-times, floor-below, ceil-above}
-use Rattle.range.proofs.Holds.{Between, if-holds, either-holds, kept-holds, sticky₁-holds, sticky₂-holds}
+use Rattle.range.proofs.Holds.{InRange, if-holds, either-holds, kept-holds, sticky₁-holds, sticky₂-holds}
 use Rattle.range.proofs.Scaled as S
 use Rattle.range.proofs.Scaled.{Scaled}
 
@@ -27,7 +27,7 @@ pub record Bounded (s : ℚ) (r : Range) (y : ℚ) : Type 0 where
 pub weighted : {x : ℚ} {r : Range} → x ∈ r → Bounded 1ℚ r x
 weighted h = record { scaled = λ t. S.at-one ℚ-ordered (h .between t .low) (h .between t .high) }
 
-pub between-of : {x : ℚ} {r : Range} → ScaledEnds 1ℚ x r → Between x r
+pub between-of : {x : ℚ} {r : Range} → ScaledEnds 1ℚ x r → InRange x r
 between-of w = record { low = S.of-one-low ℚ-ordered w; high = S.of-one-high ℚ-ordered w }
 
 pub member : {x : ℚ} {r : Range} → Bounded 1ℚ r x → x ∈ r
@@ -89,7 +89,7 @@ times-bounded {a = a} k h =
     rw (units-times k (a .low), units-times k (a .high)) (S.scaled-times ℚ-ordered (num k) (Ord.num-nonneg ℚ-ordered k) (h .scaled t)))
 
 -- ---- products: x in a, times what b bounds
-pub product-scaled : (a b : Range) {s x y : ℚ} → 0ℚ ≤ℚ s → Between x a → ScaledEnds s y b → ScaledEnds s (x *ℚ y) (endsProduct a b)
+pub product-scaled : (a b : Range) {s x y : ℚ} → 0ℚ ≤ℚ s → InRange x a → ScaledEnds s y b → ScaledEnds s (x *ℚ y) (endsProduct a b)
 unfolding endsProduct
 product-scaled a b p i w =
     let e = end-products a b in

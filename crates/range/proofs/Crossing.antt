@@ -10,17 +10,17 @@ use borrow.Author.Tests.{eq-eqb, ne-eqb}
 use lib.Dec.{T}
 use lib.IntN.{ℤ, pos, negsuc, negℤ, natAbs, _*ℤ_}
 use lib.Signed.{leZ}
-use Rattle.algebra.proofs.Int.{ℤ-ring, ℤ-ordered, neg-abs, mul-abs}
+use Rattle.algebra.proofs.Int.{ℤ-ordered, neg-abs, mul-abs}
 use Rattle.exact.proofs.Div.{floorDiv, ceilDiv}
 use Rattle.range.specs.declared.Range.{Range}
 use Rattle.range.specs.Limit.{fromTo, zeroRange, over, isValid, bothValid, kept}
 use Rattle.range.specs.Arithmetic.{leastProduct, greatestProduct, endsSum, sumOf, endsProduct}
-use Rattle.range.specs.Sums.{has, sumOver, sumOverℤ, at, validBelow, validOver, endsProducts, productsOf}
+use Rattle.range.specs.Sums.{has, sumOverℤ, at, validBelow, validOver, endsProducts, productsOf}
 use Rattle.range.specs.Sums.{largestSquare, squareSum, endsSquares, squaresOf, rootSum, rootOf}
 use Rattle.range.specs.Steps.{upTo, aroundRoot}
 use Rattle.range.proofs.Valid.{true-T, not-true, and-left, and-right, both-valid}
 use Rattle.range.proofs.Extremes.{greater-any, least-product, greatest-product}
-use Rattle.range.proofs.Fitting.{Within, low-within, high-within, first-valid, second-valid, pick-yes, pick-no, over-sumOf}
+use Rattle.range.proofs.Fitting.{InLimit, low-within, high-within, first-valid, second-valid, pick-yes, pick-no, over-sumOf}
 use Rattle.range.proofs.SumOver.{sumOver-zero, members-valid, squareSum-sign}
 use Rattle.range.proofs.Scanning.{Scan, scan-index, scan-has, valid-member, valid-skip, valid-end}
 use Rattle.range.proofs.Scanning.{few, Few, Summed, summed-start, summed-member, summed-skip, summed-end}
@@ -35,7 +35,7 @@ ceil-few : (z : ℤ) → natAbs z ≤ 4000000000000000000 → natAbs (ceilDiv z 
 unfolding ceilDiv
 ceil-few z h = omega (arith, neg-abs (floorDiv (negℤ z) 10000), floor-few (negℤ z) (omega (arith, neg-abs z)))
 
-mul-few : (x y : ℤ) → Within x → Within y → natAbs (x *ℤ y) ≤ 4000000000000000000
+mul-few : (x y : ℤ) → InLimit x → InLimit y → natAbs (x *ℤ y) ≤ 4000000000000000000
 mul-few x y p q = omega (arith, mul-abs x y, N.mul-le-mul p q)
 
 pub product-few : (a b : Range) → isValid a ≡ true → isValid b ≡ true → Few (endsProduct a b)

@@ -21,19 +21,19 @@ use Rattle.range.proofs.Valid.{T-true, true-T, and-left, and-right, end
 use Rattle.range.proofs.Valid.{both-right, kept-is, sticky₁-is, sticky₂-is, not-true, and-false, over-invalid}
 use Rattle.range.proofs.Extremes.{lesser-left, lesser-any, greater-left, greater-any}
 
-abbrev pub Within : ℤ → Type 0
-Within z = natAbs z ≤ 2000000000
+abbrev pub InLimit : ℤ → Type 0
+InLimit z = natAbs z ≤ 2000000000
 
-pub within : (z : ℤ) → least ≤ℤ z → z ≤ℤ most → Within z
-within (pos n) l h = omega ints
-within (negsuc n) l h = omega ints
+pub in-limit : (z : ℤ) → least ≤ℤ z → z ≤ℤ most → InLimit z
+in-limit (pos n) l h = omega ints
+in-limit (negsuc n) l h = omega ints
 
 module _ (r : Range) (v : isValid r ≡ true) where
-  pub low-within : Within (r .low)
-  low-within = let e = ends-of r (true-T v) in within (r .low) (e .above) (omega ints)
+  pub low-within : InLimit (r .low)
+  low-within = let e = ends-of r (true-T v) in in-limit (r .low) (e .above) (omega ints)
 
-  pub high-within : Within (r .high)
-  high-within = let e = ends-of r (true-T v) in within (r .high) (omega ints) (e .below)
+  pub high-within : InLimit (r .high)
+  high-within = let e = ends-of r (true-T v) in in-limit (r .high) (omega ints) (e .below)
 
   -- as a number that is passed on
   pub low-read : toZ w64 (ofZ w64 (r .low)) ≡ r .low
@@ -52,10 +52,10 @@ module _ (a b : Range) (p : Small a) (q : Small b) where
   pub high-sum-fits : SFits w64 (a .high +ℤ b .high)
   high-sum-fits = fits-abs (a .high +ℤ b .high) (omega (arith, add-abs (a .high) (b .high), p .high, q .high))
 
-pub neg-fits : (x : ℤ) → Within x → SFits w64 (negℤ x)
+pub neg-fits : (x : ℤ) → InLimit x → SFits w64 (negℤ x)
 neg-fits x h = fits-abs (negℤ x) (omega (arith, neg-abs x))
 
-pub product-fits : (x y : ℤ) → Within x → Within y → SFits w64 (x *ℤ y)
+pub product-fits : (x y : ℤ) → InLimit x → InLimit y → SFits w64 (x *ℤ y)
 product-fits x y h k = fits-abs (x *ℤ y) (omega (arith, mul-abs x y, mul-le-mul h k))
 
 -- of two valid ranges, each is. s is the flag that a test of both left
@@ -147,7 +147,7 @@ module _ (z : ℤ) (f : SFits w32 z) where
   pub read-widened : toZ w64 (ofZ w64 (toZ w32 (ofZ w32 z))) ≡ z
   read-widened = rw (toZ-ofZ w32 z f) (toZ-ofZ w64 z wide)
 
-pub fits-narrow : (z : ℤ) → Within z → SFits w32 z
+pub fits-narrow : (z : ℤ) → InLimit z → SFits w32 z
 fits-narrow (pos n) h = record { sfits = omega arith }
 fits-narrow (negsuc n) h = record { sfits = omega arith }
 

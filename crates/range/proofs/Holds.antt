@@ -39,10 +39,10 @@ module _ (P : Range → Type 0) where
   sticky₂-holds f a b h t = let k = sticky₂-of f a b t in subst P (sym (k .is)) (h (k .left) (k .right))
 
 -- ---- membership
-abbrev pub Between : ℚ → Range → Type 0
-Between x r = In (r .low) (r .high) x
+abbrev pub InRange : ℚ → Range → Type 0
+InRange x r = In (r .low) (r .high) x
 
-pub ∈-of : {r : Range} {x : ℚ} → Between x r → x ∈ r
+pub ∈-of : {r : Range} {x : ℚ} → InRange x r → x ∈ r
 ∈-of h = record { between = λ t. h }
 
 pub ∈-eq : {r : Range} {x y : ℚ} → x ≡ y → x ∈ r → y ∈ r
@@ -61,19 +61,16 @@ one-∈ = ∈-eq units-1 (exactly-∈ (pos 10000))
 -- tests and sticky operations
 module _ {x : ℚ} where
   pub over-∈ : x ∈ over
-  over-∈ = record { between = over-holds (Between x) }
+  over-∈ = record { between = over-holds (InRange x) }
 
   pub if-∈ : (c : Bool) {r : Range} → (T c → x ∈ r) → x ∈ cond c r over
-  if-∈ c f = record { between = if-holds (Between x) c (λ t. f t .between) }
+  if-∈ c f = record { between = if-holds (InRange x) c (λ t. f t .between) }
 
   pub either-∈ : (c : Bool) {r s : Range} → (T c → x ∈ r) → (T (not c) → x ∈ s) → x ∈ cond c r s
-  either-∈ c f g = record { between = either-holds (Between x) c (λ t. f t .between) (λ t. g t .between) }
+  either-∈ c f g = record { between = either-holds (InRange x) c (λ t. f t .between) (λ t. g t .between) }
 
-  pub kept-∈ : (r : Range) → Between x r → x ∈ kept r
-  kept-∈ r h = record { between = kept-holds (Between x) r h }
+  pub kept-∈ : (r : Range) → InRange x r → x ∈ kept r
+  kept-∈ r h = record { between = kept-holds (InRange x) r h }
 
-  pub sticky₁-∈ : (f : Range → Range) (a : Range) → (T (isValid a) → Between x (f a)) → x ∈ sticky₁ f a
-  sticky₁-∈ f a h = record { between = sticky₁-holds (Between x) f a h }
-
-  pub sticky₂-∈ : (f : Range → Range → Range) (a b : Range) → (T (isValid a) → T (isValid b) → Between x (f a b)) → x ∈ sticky₂ f a b
-  sticky₂-∈ f a b h = record { between = sticky₂-holds (Between x) f a b h }
+  pub sticky₁-∈ : (f : Range → Range) (a : Range) → (T (isValid a) → InRange x (f a)) → x ∈ sticky₁ f a
+  sticky₁-∈ f a h = record { between = sticky₁-holds (InRange x) f a h }

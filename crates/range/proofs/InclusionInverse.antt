@@ -13,7 +13,7 @@ use Rattle.range.specs.Inclusion.{_∈_}
 use Rattle.range.proofs.Valid.{and-both, over-invalid, sticky₁-of}
 use Rattle.exact.proofs.Units.{in-recip, nonneg-units, nonpos-units}
 use Rattle.range.proofs.Inverting.{one-sign}
-use Rattle.range.proofs.Holds.{Between, over-∈, either-∈, sticky₁-∈}
+use Rattle.range.proofs.Holds.{InRange, over-∈, either-∈, sticky₁-∈}
 
 pub inverse-∈ : {a : Range} {x y : ℚ} → x ∈ a → x *ℚ y ≡ 1ℚ → y ∈ inverseOf a
 unfolding inverseOf endsInverse
@@ -26,9 +26,9 @@ pub divisor-nonzero : {a : Range} {x : ℚ} → T (isValid (inverseOf a)) → x 
 unfolding inverseOf
 divisor-nonzero {a} {x} v h e = go (holdsZero a) (both-sides a) v
   where
-    both-sides : (a : Range) → Between 0ℚ a → T (holdsZero a)
+    both-sides : (a : Range) → InRange 0ℚ a → T (holdsZero a)
     both-sides a i = and-both (leZ (a .low) (pos 0)) (leZ (pos 0) (a .high)) (nonpos-units (i .low) .le) (nonneg-units (i .high) .le)
 
-    go : (c : Bool) → (Between 0ℚ a → T c) → T (isValid (cond c over (sticky₁ endsInverse a))) → ⊥
+    go : (c : Bool) → (InRange 0ℚ a → T c) → T (isValid (cond c over (sticky₁ endsInverse a))) → ⊥
     go true f t = over-invalid t
     go false f t = f (rw e at (h .between (sticky₁-of endsInverse a t .operand)))

@@ -26,7 +26,7 @@ use Rattle.range.proofs.Extremes.{greater-left, greater-right}
 use Rattle.range.proofs.Powers.{chain-low, down-down, up-up}
 use Rattle.exact.proofs.Units.{units-0, units-1, units-mono, units-nonneg, units-nonpos}
 use Rattle.exact.proofs.Units.{neg-upper, neg-lower, floor-below, ceil-above, in-neg}
-use Rattle.range.proofs.Holds.{Between, ∈-of, ∈-eq, one-∈, if-∈, either-∈}
+use Rattle.range.proofs.Holds.{InRange, ∈-of, ∈-eq, one-∈, if-∈, either-∈}
 
 -- ---- numbers that are not negative
 module _ {x : ℚ} (p : 0ℚ ≤ℚ x) where
@@ -98,7 +98,7 @@ module _ (x : ℚ) where
       go false t = Q.negℚ-negℚ (x ^ℚ e)
 
 -- ---- by the signs of the ends
-module _ (a : Range) {x : ℚ} (e : ℕ) (i : Between x a) where
+module _ (a : Range) {x : ℚ} (e : ℕ) (i : InRange x a) where
   above-∈ : pos 0 ≤ℤ a .low → x ^ℚ e ∈ powAbove a e
   unfolding powAbove
   above-∈ n =
@@ -117,7 +117,7 @@ module _ (a : Range) {x : ℚ} (e : ℕ) (i : Between x a) where
       p : 0ℚ ≤ℚ negℚ x
       p = Ord.neg-nonneg ℚ-ordered (Q.≤ℚ-trans (i .high) (units-nonpos n))
 
-      magnitude : Between (negℚ x ^ℚ e) (record { low = D (negℤ (a .high)) e; high = U (negℤ (a .low)) e })
+      magnitude : InRange (negℚ x ^ℚ e) (record { low = D (negℤ (a .high)) e; high = U (negℤ (a .low)) e })
       magnitude = record {
         low = pow-lower p (negℤ (a .high)) (neg-nonneg n) (neg-lower (a .high) (i .high)) e;
         high = pow-upper p (negℤ (a .low)) (neg-upper (a .low) (i .low)) e;

@@ -8,7 +8,6 @@ use lib.IntN.{ℤ, pos, negsuc, negℤ, _*ℤ_, natAbs}
 use lib.Signed.{_≤ℤ_, ≤ℤ-refl}
 use Rattle.algebra.proofs.Ordered as Ord
 use Rattle.algebra.proofs.Sum as Sum
-use Rattle.algebra.proofs.Int.{ℤ-ring}
 use Rattle.algebra.proofs.Int.{ints, neg-dif, pos-≤, ≤ℤ-trans}
 use Rattle.exact.proofs.Sqrt.{ceil-root}
 use Rattle.exact.proofs.Rat as Q
@@ -25,7 +24,7 @@ use Rattle.range.proofs.Valid.{and-left, and-right, if-valid, if-passed
 use Rattle.range.proofs.Extremes.{greater-left, greater-right}
 use Rattle.range.proofs.SumOver.{sumOver-mono, sumOver-nonneg, members-valid}
 use Rattle.exact.proofs.Units.{units-0, units-nonneg, ceil-above, products-≤, sum-units}
-use Rattle.range.proofs.Holds.{Between, if-∈, kept-∈}
+use Rattle.range.proofs.Holds.{InRange, if-∈, kept-∈}
 use Rattle.range.proofs.Bounded.{between-of, one-nonneg, product-scaled}
 use Rattle.range.proofs.Scaled as S
 
@@ -47,11 +46,11 @@ module _ (s : ℕ) (f : ℕ → ℤ) {v : ℕ → ℚ} where
   sum-upper h = Ord.le-eq ℚ-ordered (sumOver-mono ℚ-ordered s h) (sym (sumOver-units s f))
 
 pub each-between : {s : ℕ} {g : List Range} {x : ℕ → ℚ} → Members s x g → T (validOver s g)
-    → (a : ℕ) → a < 8 → T (has s a) → Between (x a) (at g a)
+    → (a : ℕ) → a < 8 → T (has s a) → InRange (x a) (at g a)
 each-between {s} {g} m v a l t = m .each a l t .between (members-valid s g v a l t)
 
 -- ---- products
-product-between : (a b : Range) {x y : ℚ} → Between x a → Between y b → Between (x *ℚ y) (endsProduct a b)
+product-between : (a b : Range) {x y : ℚ} → InRange x a → InRange y b → InRange (x *ℚ y) (endsProduct a b)
 product-between a b i j = between-of (product-scaled a b one-nonneg i (S.at-one ℚ-ordered (j .low) (j .high)))
 
 pub products-∈ : {s : ℕ} {g h : List Range} {x y : ℕ → ℚ} → Members s x g → Members s y h → sumOverℚ s (λ a. x a *ℚ y a) ∈ productsOf s g h
@@ -64,14 +63,14 @@ products-∈ {s} {g} {h} {x} {y} m n =
       high = sum-upper s (λ a. endsProduct (at g a) (at h a) .high) (λ a l t. each v a l t .high);
     }))
   where
-    each : T (validOver s g && validOver s h) → (a : ℕ) → a < 8 → T (has s a) → Between (x a *ℚ y a) (endsProduct (at g a) (at h a))
+    each : T (validOver s g && validOver s h) → (a : ℕ) → a < 8 → T (has s a) → InRange (x a *ℚ y a) (endsProduct (at g a) (at h a))
     each v a l t =
         product-between (at g a) (at h a)
         (each-between m (and-left (validOver s g) (validOver s h) v) a l t)
         (each-between n (and-right (validOver s g) (validOver s h) v) a l t)
 
 -- ---- squares
-pub square-upper : {r : Range} {x : ℚ} → Between x r → x *ℚ x ≤ℚ units (largestSquare r)
+pub square-upper : {r : Range} {x : ℚ} → InRange x r → x *ℚ x ≤ℚ units (largestSquare r)
 unfolding largestSquare
 square-upper {r} i =
     Ord.square-upper ℚ-ordered (i .low) (i .high)

@@ -6,7 +6,7 @@ use lib.Signed.{_≤ℤ_, ≤ℤ-refl}
 use Rattle.algebra.proofs.Int.{≤ℤ-trans}
 use Rattle.range.specs.declared.Range.{Range}
 use Rattle.range.specs.Limit.{over, isValid, bothValid, kept, sticky₁, sticky₂}
-use Rattle.range.specs.Laws.{Inside, _⊑_}
+use Rattle.range.specs.Laws.{ValidInside, _⊑_}
 use Rattle.range.proofs.Valid.{ends-of, valid-of, both-left, both-right, both-valid, over-invalid}
 
 -- a's ends are in order and between b's, whether these count or not
@@ -16,7 +16,7 @@ pub record Within (a b : Range) : Type 0 where
   pub high : a .high ≤ℤ b .high
 
 module _ {a b : Range} where
-  pub within-inside : Within a b → T (isValid b) → Inside a b
+  pub within-inside : Within a b → T (isValid b) → ValidInside a b
   within-inside w t =
       let e = ends-of b t in
       record {

@@ -18,13 +18,13 @@ Settled r = (isValid r ≡ true) ⊎ (r ≡ over)
 
 -- Narrower: where b is valid, a is too and lies inside b.
 infix 4 _⊑_
-pub record Inside (a b : Range) : Type 0 where
+pub record ValidInside (a b : Range) : Type 0 where
   pub valid : T (isValid a)
   pub low : b .low ≤ℤ a .low
   pub high : a .high ≤ℤ b .high
 
 pub record _⊑_ (a b : Range) : Type 0 where
-  pub inside : T (isValid b) → Inside a b
+  pub inside : T (isValid b) → ValidInside a b
 
 -- Lists of ranges of which those of the factors in s are.
 pub record Narrower (s : ℕ) (f g : List Range) : Type 0 where

@@ -15,7 +15,7 @@ use Rattle.range.specs.Arithmetic.{inverseOf}
 use Rattle.range.specs.Inclusion.{_∈_, num}
 use Rattle.range.specs.Sums.{at}
 use Rattle.range.proofs.Valid.{and-left, and-right}
-use Rattle.range.proofs.Holds.{Between, ∈-of, ∈-eq, exactly-∈}
+use Rattle.range.proofs.Holds.{InRange, ∈-of, ∈-eq, exactly-∈}
 use Rattle.range.proofs.Inclusion.{inclusion}
 use Rattle.rules.specs.declared.Line.{Line}
 use Rattle.rules.specs.Formula.{sticky}
@@ -24,8 +24,8 @@ use Rattle.rules.specs.Run.{eachValid, within}
 use Rattle.rules.specs.Exact.{Point, coordinate, Jet, factorJet, addJet, addcJet, mulcJet, mulJet, powJet, invJet}
 
 pub record Enclosed (x : Jet) (l : Line) : Type 0 where
-  pub value : Between (x .value) (l .value)
-  pub first : (a : ℕ) → a < 8 → Between (x .first a) (at (l .gradient) a)
+  pub value : InRange (x .value) (l .value)
+  pub first : (a : ℕ) → a < 8 → InRange (x .first a) (at (l .gradient) a)
 
 -- as members of the operands' ranges
 module _ {x : Jet} {l : Line} (h : Enclosed x l) where
@@ -80,11 +80,11 @@ enclosed {x} r t v g = record {
 }
 
 -- ---- the table
-pub factor-enclosed : (p : Point) (i : ℕ) (r : Range) → Between (coordinate p i) r → Enclosed (factorJet p i) (lineOf (factorRow i r))
+pub factor-enclosed : (p : Point) (i : ℕ) (r : Range) → InRange (coordinate p i) r → Enclosed (factorJet p i) (lineOf (factorRow i r))
 unfolding factorJet factorRow lineOf isValid
 factor-enclosed p i r h = record { value = h; first = λ a k. rw (at-eight (λ a. cond (eqb a i) oneRange zeroRange) a k) (one-at (eqb a i)) }
   where
-    one-at : (b : Bool) → Between (cond b 1ℚ 0ℚ) (cond b oneRange zeroRange)
+    one-at : (b : Bool) → InRange (cond b 1ℚ 0ℚ) (cond b oneRange zeroRange)
     one-at true = inclusion .one .between tt
     one-at false = inclusion .zero .between tt
 

@@ -38,26 +38,26 @@ inner-only {s} u v o = sum-single ℚ-ring 8 (has s) (λ a. u a *ℚ v a) (o .be
 
 -- ---- bounds
 module _ (s : ℕ) where
-  within : (ℕ → ℚ) → ℕ → ℚ
-  within = restricted ℚ-ring (has s)
+  inSet : (ℕ → ℚ) → ℕ → ℚ
+  inSet = restricted ℚ-ring (has s)
 
-  inner-within : (u v : ℕ → ℚ) → dot ℚ-ring 8 (within u) (within v) ≡ inner s u v
-  unfolding sumOver within
+  inner-within : (u v : ℕ → ℚ) → dot ℚ-ring 8 (inSet u) (inSet v) ≡ inner s u v
+  unfolding sumOver inSet
   inner-within = dot-restricted ℚ-ring 8 (has s)
 
   pub inner-square : (u v : ℕ → ℚ) → inner s u v *ℚ inner s u v ≤ℚ weight s u *ℚ weight s v
-  inner-square u v = rw (inner-within u v, inner-within u u, inner-within v v) at (cauchy-schwarz ℚ-ordered 8 (within u) (within v))
+  inner-square u v = rw (inner-within u v, inner-within u u, inner-within v v) at (cauchy-schwarz ℚ-ordered 8 (inSet u) (inSet v))
 
   module _ (g h v : ℕ → ℚ) (β : ℚ) (p : 0ℚ ≤ℚ β) (q : weight s g *ℚ weight s h ≤ℚ β *ℚ β) where
-    large : dot ℚ-ring 8 (within g) (within g) *ℚ dot ℚ-ring 8 (within h) (within h) ≤ℚ β *ℚ β
+    large : dot ℚ-ring 8 (inSet g) (inSet g) *ℚ dot ℚ-ring 8 (inSet h) (inSet h) ≤ℚ β *ℚ β
     large = rw (inner-within g g, inner-within h h) q
 
     pub inner-double-upper : num 2 *ℚ inner s v g *ℚ inner s v h ≤ℚ (inner s g h +ℚ β) *ℚ weight s v
     inner-double-upper =
         rw (inner-within v g, inner-within v h, inner-within g h, inner-within v v) at
-        (double-upper ℚ-ordered 8 (within g) (within h) (within v) β p large)
+        (double-upper ℚ-ordered 8 (inSet g) (inSet h) (inSet v) β p large)
 
     pub inner-double-lower : (inner s g h -ℚ β) *ℚ weight s v ≤ℚ num 2 *ℚ inner s v g *ℚ inner s v h
     inner-double-lower =
         rw (inner-within v g, inner-within v h, inner-within g h, inner-within v v) at
-        (double-lower ℚ-ordered 8 (within g) (within h) (within v) β p large)
+        (double-lower ℚ-ordered 8 (inSet g) (inSet h) (inSet v) β p large)

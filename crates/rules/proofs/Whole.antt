@@ -14,7 +14,7 @@ use Rattle.codelist.specs.Codelist.{Earlier, WellFormedOp}
 use Rattle.exact.proofs.Rat.{ℚ, _*ℚ_, 1ℚ, recip, Recip, recip-law}
 use Rattle.range.specs.declared.Range.{Range}
 use Rattle.range.specs.Limit.{isValid}
-use Rattle.range.proofs.Holds.{Between}
+use Rattle.range.proofs.Holds.{InRange}
 use Rattle.rules.specs.declared.Line.{Line}
 use Rattle.rules.specs.Table.{factorRow, addRow, addcRow, mulcRow, mulRow, powRow, invRow, lineOf}
 use Rattle.rules.specs.Run.{line, rowOf, within}
@@ -45,7 +45,7 @@ abbrev pub WholeLine : ℕ → Point → Point → Option Jet → Option Jet →
 WholeLine n p q o u l = Given (λ x. Whole n p q x u l) o
 
 module _ (n : ℕ) (most : n ≤ 8) (p q : Point) where
-  pub whole-factor : (i : ℕ) (r : Range) → i < n → Between (coordinate p i) r
+  pub whole-factor : (i : ℕ) (r : Range) → i < n → InRange (coordinate p i) r
       → Whole n p q (factorJet p i) (some (factorJet q i)) (lineOf (factorRow i r))
   unfolding factorRow lineOf isValid
   whole-factor i r h b = record {
