@@ -8,8 +8,8 @@ use native.Mathlib.Decide.{ℕ-discrete}
 use native.Mathlib.Omega.{arith}
 use lib.Dec.{ltb, eqb, lit<}
 use borrow.Author.Tests.{eq-eqb, ne-eqb, ltb-true}
-use Rattle.codelist.specs.declared.lines.TextLine.{TextLine}
-use Rattle.codelist.specs.declared.lines.TextLine.the-variants.{Add, Mul, AddC, MulC, Pow, Inv}
+use Rattle.codelist.specs.Text.{TextLine}
+use Rattle.codelist.specs.Text.{Add, Mul, AddC, MulC, Pow, Inv}
 use Rattle.codelist.specs.declared.Numeral.{Numeral}
 use Rattle.codelist.specs.declared.lines.Word.{Word}
 use Rattle.codelist.specs.declared.lines.Word.the-variants as word

@@ -10,7 +10,7 @@ use lib.Seq.{length-take-le, take-suc-set, drop-set-lt, drop-drop}
 use Rattle.codelist.specs.declared.loading.Checked.{Checked}
 use Rattle.codelist.specs.declared.loading.Checked.the-variants.{Fine, Fault}
 use Rattle.codelist.specs.declared.Entry.{Entry}
-use Rattle.codelist.specs.declared.lines.TextLine.{TextLine}
+use Rattle.codelist.specs.Text.{TextLine}
 use Rattle.codelist.specs.declared.Op.{Op}
 use Rattle.codelist.specs.declared.Refusal.{Refusal}
 use Rattle.codelist.specs.declared.Refusal.the-variants.{Malformed, TooManyLines, NoOperation}

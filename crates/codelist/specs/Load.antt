@@ -10,8 +10,8 @@ use Rattle.codelist.specs.declared.loading.Checked.{Checked}
 use Rattle.codelist.specs.declared.loading.Checked.the-variants.{Fine, Fault}
 use Rattle.codelist.specs.declared.Codelist.{Codelist}
 use Rattle.codelist.specs.declared.Entry.{Entry}
-use Rattle.codelist.specs.declared.lines.TextLine.{TextLine}
-use Rattle.codelist.specs.declared.lines.TextLine.the-variants.{Add, Mul, AddC, MulC, Pow, Inv}
+use Rattle.codelist.specs.Text.{TextLine}
+use Rattle.codelist.specs.Text.{Add, Mul, AddC, MulC, Pow, Inv}
 use Rattle.codelist.specs.declared.Loaded.{Loaded}
 use Rattle.codelist.specs.declared.Numeral.{Numeral}
 use Rattle.codelist.specs.declared.Op.{Op}

@@ -4,8 +4,6 @@ use mathlib.Core.Bool.{true, cond}
 use mathlib.Core.List.{List, [], _∷_, _++_}
 use mathlib.Core.Path.{_≡_}
 use lib.Dec.{ltb}
-use Rattle.codelist.specs.declared.lines.TextLine.{TextLine}
-use Rattle.codelist.specs.declared.lines.TextLine.the-variants.{Add, Mul, AddC, MulC, Pow, Inv}
 use Rattle.codelist.specs.declared.Numeral.{Numeral}
 
 -- The words that a line begins with, the tab (byte 9, shown → in 01) after each included
@@ -49,6 +47,10 @@ abbrev pub firstText : Numeral → List ℕ
 firstText n = factors→ ++ (numeralText n ++ (10 ∷ []))
 
 -- "Then come operation lines: `add→i→j`, `mul→i→j`, `addc→i→c`, `mulc→i→c`, `pow→i→m`, `inv→i`."
+pub data TextLine : Type 0 where
+  Add Mul AddC MulC Pow : Numeral → Numeral → TextLine
+  Inv : Numeral → TextLine
+
 abbrev pub two : List ℕ → Numeral → Numeral → List ℕ
 two w i j = w ++ (numeralText i ++ (9 ∷ (numeralText j ++ (10 ∷ []))))
 

@@ -2,8 +2,9 @@
 use Prim.Native.Nat.{ℕ, _≤_}
 use mathlib.Core.List.{List}
 use lib.ListN.{length, drop}
-use Rattle.codelist.specs.declared.lines.TextLine.{TextLine}
-use Rattle.codelist.specs.declared.lines.TextLine.the-variants.{Add, Mul, AddC, MulC, Pow, Inv}
+use Rattle.codelist.specs.Text.{TextLine}
+use Rattle.codelist.specs.Text.{Add, Mul, AddC, MulC, Pow, Inv}
+use Rattle.codelist.specs.declared.lines.LineParts.{LineParts}
 use Rattle.codelist.specs.declared.lines.LineRead as o
 use Rattle.codelist.specs.declared.lines.LiteralRead as l
 use Rattle.codelist.specs.declared.Numeral.{Numeral}
@@ -31,11 +32,7 @@ abbrev pub ofWord : List ℕ → w.WordRead → Read Word
 ofWord s (w.the-variants.Good k at) = good k (drop at s)
 ofWord s w.the-variants.Bad = bad
 
-abbrev pub ofLine : List ℕ → o.LineRead → Read TextLine
-ofLine s (o.the-variants.Good r at) = good r (drop at s)
-ofLine s o.the-variants.Bad = bad
-
--- The line of a word and two numerals
+-- The line of a word and two numerals, of which `inv` has the first alone
 abbrev pub binaryOf : Word → Numeral → Numeral → TextLine
 binaryOf word.Add i x = Add i x
 binaryOf word.Mul i x = Mul i x
@@ -43,6 +40,13 @@ binaryOf word.AddC i x = AddC i x
 binaryOf word.MulC i x = MulC i x
 binaryOf word.Pow i x = Pow i x
 binaryOf word.Inv i x = Inv i
+
+abbrev pub textLine : LineParts → TextLine
+textLine l = binaryOf (l .word) (l .left) (l .right)
+
+abbrev pub ofLine : List ℕ → o.LineRead → Read TextLine
+ofLine s (o.the-variants.Good r at) = good (textLine r) (drop at s)
+ofLine s o.the-variants.Bad = bad
 
 -- The numbers of a line fit the operation's fields
 abbrev pub Fits : TextLine → Type 0

@@ -6,8 +6,8 @@ use lib.IntN.{ℤ, pos, negsuc}
 use lib.ListN.{take}
 use Rattle.codelist.specs.declared.Codelist.{Codelist}
 use Rattle.codelist.specs.declared.Entry.{Entry}
-use Rattle.codelist.specs.declared.lines.TextLine.{TextLine}
-use Rattle.codelist.specs.declared.lines.TextLine.the-variants.{Add, Mul, AddC, MulC, Pow, Inv}
+use Rattle.codelist.specs.Text.{TextLine}
+use Rattle.codelist.specs.Text.{Add, Mul, AddC, MulC, Pow, Inv}
 use Rattle.codelist.specs.declared.Numeral.{Numeral}
 use Rattle.codelist.specs.declared.Op.{Op}
 use Rattle.codelist.specs.declared.Op.the-variants as op

@@ -2,30 +2,27 @@
 ghost use mathlib.Core.Path.{_≡_};
 ghost use lib.ListN.{drop};
 ghost use Rattle.codelist.specs.Read.{_or_, literal, named, keyword, operands, operationLine, firstLine};
-ghost use Rattle.codelist.specs.Views.{ofNumeral, ofLiteral, ofWord, ofLine, binaryOf};
+ghost use Rattle.codelist.specs.Views.{ofNumeral, ofLiteral, ofWord, ofLine};
 use super::Numeral;
 use super::PairRead;
 use super::numerals;
 use super::numerals::NumeralRead;
 
-// An operation line as it is written.
-pub(crate) enum TextLine {
-    Add(Numeral, Numeral),
-    Mul(Numeral, Numeral),
-    AddC(Numeral, Numeral),
-    MulC(Numeral, Numeral),
-    Pow(Numeral, Numeral),
-    Inv(Numeral),
-}
-
 // The word that an operation line begins with.
-enum Word {
+pub(crate) enum Word {
     Add,
     Mul,
     AddC,
     MulC,
     Pow,
     Inv,
+}
+
+// An operation line as it is written: its word and its numerals. The one numeral of a line `inv` stands here twice.
+pub(crate) struct LineParts {
+    pub word: Word,
+    pub left: Numeral,
+    pub right: Numeral,
 }
 
 // What the readers find at a place of the text, each with the place after it.
@@ -40,7 +37,7 @@ enum WordRead {
 }
 
 pub(crate) enum LineRead {
-    Good(TextLine, usize),
+    Good(LineParts, usize),
     Bad,
 }
 
@@ -91,28 +88,28 @@ fn operands_at(s: &[u8], at: usize, name: Word) -> LineRead
 {
     if let Word::Inv = name {
         match numerals::field_at(s, at, numerals::LINE_END) {
-            NumeralRead::Good(i, t) => LineRead::Good(TextLine::Inv(i), t),
+            NumeralRead::Good(i, t) => LineRead::Good(
+                LineParts {
+                    word: name,
+                    left: i,
+                    right: i,
+                },
+                t,
+            ),
             NumeralRead::Bad => LineRead::Bad,
         }
     } else {
         match super::pair_at(s, at) {
-            PairRead::Good(i, x, t) => LineRead::Good(binary(name, i, x), t),
+            PairRead::Good(i, x, t) => LineRead::Good(
+                LineParts {
+                    word: name,
+                    left: i,
+                    right: x,
+                },
+                t,
+            ),
             PairRead::Bad => LineRead::Bad,
         }
-    }
-}
-
-// The line of a word and two numerals.
-fn binary(name: Word, i: Numeral, x: Numeral) -> TextLine
-    ensures { λ r. ⌜ r ≡ binaryOf name i x ⌝ }
-{
-    match name {
-        Word::Add => TextLine::Add(i, x),
-        Word::Mul => TextLine::Mul(i, x),
-        Word::AddC => TextLine::AddC(i, x),
-        Word::MulC => TextLine::MulC(i, x),
-        Word::Pow => TextLine::Pow(i, x),
-        Word::Inv => TextLine::Inv(i),
     }
 }
 

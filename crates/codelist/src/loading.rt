@@ -5,7 +5,7 @@ ghost use Prim.Native.Nat.{_≤_, _-_};
 ghost use lib.ListN.{drop};
 ghost use Rattle.codelist.specs.Codelist.{limit};
 ghost use Rattle.codelist.specs.Conditions.{isBetween, refersBack, exponentFits, constantFits};
-ghost use Rattle.codelist.specs.Views.{Fits};
+ghost use Rattle.codelist.specs.Views.{textLine, Fits};
 ghost use Rattle.codelist.specs.Load.{refused, valueOf, opOf, checkedOf, operationLines};
 use super::Codelist;
 use super::Entry;
@@ -17,8 +17,9 @@ use super::Op;
 use super::Outcome;
 use super::Refusal;
 use super::lines;
+use super::lines::LineParts;
 use super::lines::LineRead;
-use super::lines::TextLine;
+use super::lines::Word;
 
 // An operation line that keeps the rules, or the refusal of one that does not.
 enum Checked {
@@ -41,36 +42,40 @@ pub(crate) fn is_between(low: u64, high: u64, w: Numeral) -> bool
 }
 
 // 5: every reference of a line is to one of the `earlier` codelist lines before it.
-fn refers_back(earlier: u64, line: TextLine) -> bool
-    ensures { λ r. ⌜ r ≡ refersBack earlier line ⌝ }
+fn refers_back(earlier: u64, line: LineParts) -> bool
+    ensures { λ r. ⌜ r ≡ refersBack earlier (textLine line) ⌝ }
 {
-    match line {
-        TextLine::Add(i, j) => is_between(1, earlier, i) & is_between(1, earlier, j),
-        TextLine::Mul(i, j) => is_between(1, earlier, i) & is_between(1, earlier, j),
-        TextLine::AddC(i, _) => is_between(1, earlier, i),
-        TextLine::MulC(i, _) => is_between(1, earlier, i),
-        TextLine::Pow(i, _) => is_between(1, earlier, i),
-        TextLine::Inv(i) => is_between(1, earlier, i),
+    let word = line.word;
+    let i = line.left;
+    let j = line.right;
+    match word {
+        Word::Add => is_between(1, earlier, i) & is_between(1, earlier, j),
+        Word::Mul => is_between(1, earlier, i) & is_between(1, earlier, j),
+        _ => is_between(1, earlier, i),
     }
 }
 
 // 6: an exponent is 2 to 8.
-fn exponent_fits(line: TextLine) -> bool
-    ensures { λ r. ⌜ r ≡ exponentFits line ⌝ }
+fn exponent_fits(line: LineParts) -> bool
+    ensures { λ r. ⌜ r ≡ exponentFits (textLine line) ⌝ }
 {
-    match line {
-        TextLine::Pow(_, m) => is_between(2, 8, m),
+    let word = line.word;
+    let m = line.right;
+    match word {
+        Word::Pow => is_between(2, 8, m),
         _ => true,
     }
 }
 
 // 7: a constant is not beyond the limit.
-fn constant_fits(line: TextLine) -> bool
-    ensures { λ r. ⌜ r ≡ constantFits line ⌝ }
+fn constant_fits(line: LineParts) -> bool
+    ensures { λ r. ⌜ r ≡ constantFits (textLine line) ⌝ }
 {
-    match line {
-        TextLine::AddC(_, c) => c.magnitude <= LIMIT,
-        TextLine::MulC(_, c) => c.magnitude <= LIMIT,
+    let word = line.word;
+    let c = line.right;
+    match word {
+        Word::AddC => c.magnitude <= LIMIT,
+        Word::MulC => c.magnitude <= LIMIT,
         _ => true,
     }
 }
@@ -93,24 +98,28 @@ fn small(w: Numeral) -> u8
 }
 
 // The operation of a line that keeps the rules.
-fn op_of(line: TextLine) -> Op
-    requires { ⌜ Fits line ⌝ }
-    ensures { λ o. ⌜ o ≡ opOf line ⌝ }
+fn op_of(line: LineParts) -> Op
+    requires { ⌜ Fits (textLine line) ⌝ }
+    ensures { λ o. ⌜ o ≡ opOf (textLine line) ⌝ }
 {
-    match line {
-        TextLine::Add(i, j) => Op::Add(small(i), small(j)),
-        TextLine::Mul(i, j) => Op::Mul(small(i), small(j)),
-        TextLine::AddC(i, c) => Op::AddC(small(i), value(c)),
-        TextLine::MulC(i, c) => Op::MulC(small(i), value(c)),
-        TextLine::Pow(i, m) => Op::Pow(small(i), small(m)),
-        TextLine::Inv(i) => Op::Inv(small(i)),
+    let word = line.word;
+    let left = line.left;
+    let right = line.right;
+    let i = small(left);
+    match word {
+        Word::Add => Op::Add(i, small(right)),
+        Word::Mul => Op::Mul(i, small(right)),
+        Word::AddC => Op::AddC(i, value(right)),
+        Word::MulC => Op::MulC(i, value(right)),
+        Word::Pow => Op::Pow(i, small(right)),
+        Word::Inv => Op::Inv(i),
     }
 }
 
 // The line at a text line, with `earlier` codelist lines before it: 5, then 6, then 7.
-fn check_line(place: u64, earlier: u64, line: TextLine) -> Checked
+fn check_line(place: u64, earlier: u64, line: LineParts) -> Checked
     requires { ⌜ earlier ≤ 64 ⌝ }
-    ensures { λ r. ⌜ r ≡ checkedOf place earlier line ⌝ }
+    ensures { λ r. ⌜ r ≡ checkedOf place earlier (textLine line) ⌝ }
 {
     if !refers_back(earlier, line) {
         return Checked::Fault(Refusal::Reference(place));

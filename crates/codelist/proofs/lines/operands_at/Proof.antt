@@ -43,9 +43,6 @@ pair-at-requires c κs = search needs
 enum-known-i-2 : tie.Need-enum-known-i-2
 enum-known-i-2 c = search needs
 
-binary-requires : tie.Need-binary-requires
-binary-requires c κs = search needs
-
 enum-told-3 : tie.Need-enum-told-3
 enum-told-3 c = search needs
 
@@ -72,11 +69,11 @@ returns-2 c =
 
 returns-3 : tie.Need-returns-3
 returns-3 c =
-    let m = c .before .before in
+    let m = c .before in
     let f = m .before .before in
     let a = f .before .before .before .args in
     sym (two-operands (a .name) _ (f .before .match .keys2)
-    ∙ simp (pair-read (a .s .now) (a .at) _ _ _ (sym (f .pair-at .ensures) ∙ m .i2 .given .1), c .binary .ensures))
+    ∙ simp (pair-read (a .s .now) (a .at) _ _ _ (sym (f .pair-at .ensures) ∙ m .i2 .given .1)))
 
 returns-4 : tie.Need-returns-4
 returns-4 c =
@@ -95,7 +92,6 @@ operands-at-spec =
     enum-told-2
     pair-at-requires
     enum-known-i-2
-    binary-requires
     enum-told-3
     returns
     returns-2

@@ -4,6 +4,7 @@ use borrow.Author.Needs.{needs}
 use borrow.Author.Tests.{not-true, not-false}
 use Rattle.codelist.specs.declared.loading.Checked.the-variants.{Fine}
 use Rattle.codelist.specs.Load.{checkedOf}
+use Rattle.codelist.specs.Views.{textLine}
 use Rattle.codelist.proofs.Checks.{fits}
 use Rattle.codelist.proofs.loading.check_line.Statement.{statement}
 use Rattle.codelist.proofs.loading.check_line.Tie as tie
@@ -48,7 +49,7 @@ op-of-requires c κs =
     let j = c .before .before in
     let i = j .before .before in
     let a = i .before .before in
-    fits (a .args .earlier) (a .args .line) (a .pre)
+    fits (a .args .earlier) (textLine (a .args .line)) (a .pre)
     (sym (i .before .refers-back .ensures) ∙ not-false _ (i .if1 .left))
     (sym (j .before .exponent-fits .ensures) ∙ not-false _ (j .if2 .left))
     (sym (c .before .constant-fits .ensures) ∙ not-false _ (c .if3 .left))

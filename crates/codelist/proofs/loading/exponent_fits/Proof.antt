@@ -5,35 +5,33 @@ use mathlib.Core.Path.{_≡_, refl}
 use types.Run.{OneOf, miss}
 use denote.Enum.Declared.{tagOf}
 use borrow.Author.Needs.{needs}
-use Rattle.codelist.specs.declared.lines.TextLine.{TextLine}
-use Rattle.codelist.specs.declared.lines.TextLine.the-variants.{Add, Mul, AddC, MulC, Pow, Inv}
+use Rattle.codelist.specs.declared.Numeral.{Numeral}
+use Rattle.codelist.specs.declared.lines.Word.{Word}
+use Rattle.codelist.specs.declared.lines.Word.the-variants as word
 use Rattle.codelist.specs.Conditions.{exponentFits}
-use Rattle.codelist.proofs.lines.TextLine as line
+use Rattle.codelist.specs.Views.{binaryOf}
+use Rattle.codelist.proofs.lines.Word as words
 use Rattle.codelist.proofs.loading.exponent_fits.Statement.{statement}
 use Rattle.codelist.proofs.loading.exponent_fits.Tie as tie
 
 -- Every line but that of a power has no exponent
-other : (l : TextLine) → OneOf (0 ∷ 1 ∷ 2 ∷ 3 ∷ 5 ∷ []) (tagOf line.the-type l) → true ≡ exponentFits l
+other : (k : Word) (i x : Numeral) → OneOf (0 ∷ 1 ∷ 2 ∷ 3 ∷ 5 ∷ []) (tagOf words.the-type k) → true ≡ exponentFits (binaryOf k i x)
 unfolding exponentFits
-other (Add i j) k = refl
-other (Mul i j) k = refl
-other (AddC i c) k = refl
-other (MulC i c) k = refl
-other (Pow i m) k = absurd (miss (0 ∷ 1 ∷ 2 ∷ 3 ∷ 5 ∷ []) 4 tt k)
-other (Inv i) k = refl
-
-enum-known-line : tie.Need-enum-known-line
-enum-known-line c = search needs
-
-is-between-requires : tie.Need-is-between-requires
-is-between-requires c κs = search needs
+other word.Add i x h = refl
+other word.Mul i x h = refl
+other word.AddC i x h = refl
+other word.MulC i x h = refl
+other word.Pow i x h = absurd (miss (0 ∷ 1 ∷ 2 ∷ 3 ∷ 5 ∷ []) 4 tt h)
+other word.Inv i x h = refl
 
 returns : tie.Need-returns
 unfolding exponentFits
-returns c = simp (c .before .before .line .given .1) (c .is-between .ensures)
+returns c = simp (c .before .enum-told .given .1) (c .is-between .ensures)
 
 returns-2 : tie.Need-returns-2
-returns-2 c = other (c .before .args .line) (c .match .keys2)
+returns-2 c =
+    let l = c .before .before .args .line in
+    other (l .word) (l .left) (l .right) (c .match .keys2)
 
 pub exponent-fits-spec : {M : Type 1} → statement M
-exponent-fits-spec = tie.close (tie.spec enum-known-line is-between-requires returns returns-2)
+exponent-fits-spec = tie.close (tie.spec (λ c. search needs) (λ c κs. search needs) returns returns-2)

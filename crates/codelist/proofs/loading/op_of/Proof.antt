@@ -1,107 +1,101 @@
 -- `loading::op_of` meets its contract: each arm is a case of `opOf`, and its numbers fit.
-use mathlib.Core.Path.{ap, subst, _∙_}
+use Prim.Native.Nat.{_≤_}
+use mathlib.Core.Path.{_≡_, ap, subst, _∙_}
 use mir.Facts.{toZ-ofZ}
 use mir.Syntax.{w64}
 use borrow.Author.Needs.{needs}
+use Rattle.codelist.specs.declared.Numeral.{Numeral}
 use Rattle.codelist.specs.declared.Op.the-variants.{AddC, MulC}
-use Rattle.codelist.specs.Views.{Fits}
+use Rattle.codelist.specs.declared.lines.LineParts.{LineParts}
+use Rattle.codelist.specs.declared.lines.Word.{Word}
+use Rattle.codelist.specs.declared.lines.Word.the-variants as word
+use Rattle.codelist.specs.Views.{binaryOf, textLine, Fits}
 use Rattle.codelist.proofs.loading.op_of.Statement.{statement}
 use Rattle.codelist.proofs.loading.op_of.Tie as tie
 
-enum-known-line : tie.Need-enum-known-line
-enum-known-line c = search needs
+-- The first number of every line is a reference
+left-fits : (k : Word) (i x : Numeral) → Fits (binaryOf k i x) → i .magnitude ≤ 255
+left-fits word.Add i x f = f .0
+left-fits word.Mul i x f = f .0
+left-fits word.AddC i x f = f .0
+left-fits word.MulC i x f = f .0
+left-fits word.Pow i x f = f .0
+left-fits word.Inv i x f = f
+
+-- The same of a line whose word is known
+known : {k : Word} (l : LineParts) → l .word ≡ k → Fits (textLine l) → Fits (binaryOf k (l .left) (l .right))
+known l e f = subst (λ (j : Word). Fits (binaryOf j (l .left) (l .right))) e f
 
 small-requires : tie.Need-small-requires
-small-requires c κs = subst Fits (c .before .line .given .1) (c .before .before .before .pre) .0
+small-requires c κs =
+    let a = c .before .before in
+    left-fits (a .args .line .word) (a .args .line .left) (a .args .line .right) (a .pre)
 
 small-requires-2 : tie.Need-small-requires-2
-small-requires-2 c κs = subst Fits (c .before .before .line .given .1) (c .before .before .before .before .pre) .1
-
-enum-known-line-2 : tie.Need-enum-known-line-2
-enum-known-line-2 c = search needs
+small-requires-2 c κs =
+    let a = c .before .before .before .before .before in
+    known (a .args .line) (c .enum-told .given .1) (a .pre) .1
 
 small-requires-3 : tie.Need-small-requires-3
-small-requires-3 c κs = subst Fits (c .before .line2 .given .1) (c .before .before .before .pre) .0
-
-small-requires-4 : tie.Need-small-requires-4
-small-requires-4 c κs = subst Fits (c .before .before .line2 .given .1) (c .before .before .before .before .pre) .1
-
-enum-known-line-3 : tie.Need-enum-known-line-3
-enum-known-line-3 c = search needs
-
-small-requires-5 : tie.Need-small-requires-5
-small-requires-5 c κs = subst Fits (c .before .line3 .given .1) (c .before .before .before .pre) .0
+small-requires-3 c κs =
+    let a = c .before .before .before .before .before in
+    known (a .args .line) (c .enum-told2 .given .1) (a .pre) .1
 
 value-requires : tie.Need-value-requires
-value-requires c κs = subst Fits (c .before .before .line3 .given .1) (c .before .before .before .before .pre) .1
-
-enum-known-line-4 : tie.Need-enum-known-line-4
-enum-known-line-4 c = search needs
-
-small-requires-6 : tie.Need-small-requires-6
-small-requires-6 c κs = subst Fits (c .before .line4 .given .1) (c .before .before .before .pre) .0
+value-requires c κs =
+    let a = c .before .before .before .before .before in
+    known (a .args .line) (c .enum-told3 .given .1) (a .pre) .1
 
 value-requires-2 : tie.Need-value-requires-2
-value-requires-2 c κs = subst Fits (c .before .before .line4 .given .1) (c .before .before .before .before .pre) .1
+value-requires-2 c κs =
+    let a = c .before .before .before .before .before in
+    known (a .args .line) (c .enum-told4 .given .1) (a .pre) .1
 
-enum-known-line-5 : tie.Need-enum-known-line-5
-enum-known-line-5 c = search needs
-
-small-requires-7 : tie.Need-small-requires-7
-small-requires-7 c κs = subst Fits (c .before .line5 .given .1) (c .before .before .before .pre) .0
-
-small-requires-8 : tie.Need-small-requires-8
-small-requires-8 c κs = subst Fits (c .before .before .line5 .given .1) (c .before .before .before .before .pre) .1
-
-enum-known-line-6 : tie.Need-enum-known-line-6
-enum-known-line-6 c = search needs
-
-small-requires-9 : tie.Need-small-requires-9
-small-requires-9 c κs = subst Fits (c .before .line6 .given .1) (c .before .before .before .pre)
+small-requires-4 : tie.Need-small-requires-4
+small-requires-4 c κs =
+    let a = c .before .before .before .before .before in
+    known (a .args .line) (c .enum-told5 .given .1) (a .pre) .1
 
 returns : tie.Need-returns
-returns c = simp (c .before .before .before .line .given .1, c .before .small .ensures, c .small2 .ensures)
+returns c = simp (c .before .enum-told .given .1, c .before .before .before .small .ensures, c .small2 .ensures)
 
 returns-2 : tie.Need-returns-2
-returns-2 c = simp (c .before .before .before .line2 .given .1, c .before .small3 .ensures, c .small4 .ensures)
+returns-2 c = simp (c .before .enum-told2 .given .1, c .before .before .before .small .ensures, c .small3 .ensures)
 
 returns-3 : tie.Need-returns-3
 returns-3 c =
-    ap (AddC (c .before .small5 .result)) (toZ-ofZ {w = w64} (record { sfits = c .value .ok }) ∙ c .value .ensures)
-    ∙ simp (c .before .before .before .line3 .given .1, c .before .small5 .ensures)
+    let i = c .before .before .before .small in
+    ap (AddC (i .result)) (toZ-ofZ {w = w64} (record { sfits = c .value .ok }) ∙ c .value .ensures)
+    ∙ simp (c .before .enum-told3 .given .1, i .ensures)
 
 returns-4 : tie.Need-returns-4
 returns-4 c =
-    ap (MulC (c .before .small6 .result)) (toZ-ofZ {w = w64} (record { sfits = c .value2 .ok }) ∙ c .value2 .ensures)
-    ∙ simp (c .before .before .before .line4 .given .1, c .before .small6 .ensures)
+    let i = c .before .before .before .small in
+    ap (MulC (i .result)) (toZ-ofZ {w = w64} (record { sfits = c .value2 .ok }) ∙ c .value2 .ensures)
+    ∙ simp (c .before .enum-told4 .given .1, i .ensures)
 
 returns-5 : tie.Need-returns-5
-returns-5 c = simp (c .before .before .before .line5 .given .1, c .before .small7 .ensures, c .small8 .ensures)
+returns-5 c = simp (c .before .enum-told5 .given .1, c .before .before .before .small .ensures, c .small4 .ensures)
 
 returns-6 : tie.Need-returns-6
-returns-6 c = simp (c .before .before .line6 .given .1, c .small9 .ensures)
+returns-6 c = simp (c .enum-told6 .given .1, c .before .before .small .ensures)
 
 pub op-of-spec : {M : Type 1} → statement M
 op-of-spec =
     tie.close
     (tie.spec
-    enum-known-line
     small-requires
+    (λ c. search needs)
     small-requires-2
-    enum-known-line-2
+    (λ c. search needs)
     small-requires-3
-    small-requires-4
-    enum-known-line-3
-    small-requires-5
+    (λ c. search needs)
     value-requires
-    enum-known-line-4
-    small-requires-6
+    (λ c. search needs)
     value-requires-2
-    enum-known-line-5
-    small-requires-7
-    small-requires-8
-    enum-known-line-6
-    small-requires-9
+    (λ c. search needs)
+    small-requires-4
+    (λ c. search needs)
     returns
     returns-2
     returns-3
