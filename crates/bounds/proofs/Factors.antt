@@ -18,7 +18,7 @@ use Rattle.rules.specs.Table.{factorRow, eight, lineOf}
 use Rattle.rules.specs.Run.{within}
 use Rattle.bounds.specs.declared.slopes.Slopes.{Slopes}
 use Rattle.bounds.specs.Terms.{Fine}
-use Rattle.bounds.specs.Table.{Blank, putPair, Placed}
+use Rattle.bounds.specs.Table.{Blank, putPair, Placed, Worked}
 use Rattle.bounds.proofs.Members.{at-any, at-eight, is-eight}
 use Rattle.bounds.proofs.Validity.{zero-valid}
 use Rattle.bounds.proofs.Storing.{Storing, storing-start, storing-more}
@@ -96,3 +96,12 @@ module _ (a : ℕ) where
     valid = simp (v, ones-valid, zero-valid);
     flat = λ b o. at-any (onesAt a) b (λ q. q ≡ zeroRange) refl (ones-flat b o);
   }
+
+-- ---- the row, worked out: its line is placed, and its slopes are given back
+pub factor-worked : (a : ℕ) → a < 8 → (r : Range) → isValid r ≡ true → {t : List ℤ} {s : List ℕ} {u : List ℤ} {v : List ℕ}
+    → Placed (lineOf (factorRow a r)) t s a u v
+    → Worked (factorRow a r) t s a (record { gradient = set (eight (λ b. zeroRange)) a oneRange; valid = true }) u v
+unfolding lineOf factorRow
+factor-worked a h r ok p =
+    let f = factor-fine a r ok in
+    record { tells = sym (f .valid); slopes = λ e. one-at a h; line = λ e. p .line; fine = λ e. f; others = p .others }

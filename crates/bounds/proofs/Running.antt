@@ -137,6 +137,17 @@ module _ {t : List ℤ} {s : List ℕ} {u : List ℤ} {v : List ℕ} (k : ℕ) (
       ap (linesUpTo u v) (add-one k)
       ∙ ap₂ (λ (ls : List Line) (x : Line). ls ++ (x ∷ [])) (up-to-same u v t s k same-before) (p .line)
 
+-- the same after a row, where all ranges of its line are valid
+module _ {row : Row} {t : List ℤ} {s : List ℕ} {k : ℕ} {r : Slopes} {u : List ℤ} {v : List ℕ} (w : Worked row t s k r u v) (ok : r .valid ≡ true)
+  where
+    pub row-placed : Placed (lineOf row) t s k u v
+    row-placed = record { line = w .line ok; others = w .others }
+
+    pub row-slopes : r .gradient ≡ gradientAt u (k + 1 - 1)
+    row-slopes =
+        let here : k ≡ k + 1 - 1 = omega arith in
+        w .slopes ok ∙ sym (ap (λ (l : Line). l .gradient) (w .line ok)) ∙ ap (gradientAt u) here
+
 -- ---- the lines of the operations
 -- what is known once the counts have been tested
 pub record Counted (c : Codelist) : Type 0 where
@@ -153,26 +164,27 @@ module _ {c : Codelist} (n : Counted c) where
   all-long : length (operations c) ≡ c .count
   all-long = length-take-le (c .count) (c .ops) enough
 
--- g are the slopes of the line before k, where that is one of an operation
+-- g are the slopes of the line before k
 module _ (c : Codelist) (rs : List Range) where
   pub record Ran (t : List ℤ) (s : List ℕ) (g : List Range) (k : ℕ) : Type 0 where
     pub from : c .factors ≤ k
     pub upto : k ≤ c .factors + c .count
     pub ready : Ready t s k
-    pub slopes : c .factors < k → g ≡ gradientAt t (k - 1)
+    pub slopes : g ≡ gradientAt t (k - 1)
     pub todo : runOps (drop (k - c .factors) (operations c)) (linesUpTo t s k) ≡ linesOf c rs
     pub untested : wellFormedOps (c .factors + (k - c .factors)) (drop (k - c .factors) (operations c)) ≡ ratable c
 
-  pub ran-start : (t : List ℤ) (s : List ℕ) (g : List Range) (k : ℕ) → Counted c → k ≡ c .factors → Started (factorLines 0 rs) k t s → Ran t s g k
+  pub ran-start : (t : List ℤ) (s : List ℕ) (g : List Range) (k : ℕ) → Counted c → k ≡ c .factors → Started (factorLines 0 rs) k t s
+      → g ≡ gradientAt t (k - 1) → Ran t s g k
   unfolding linesOf
-  ran-start t s g k n e i =
+  ran-start t s g k n e i l =
       let none : k - c .factors ≡ 0 = omega arith in
       let all : c .factors + (k - c .factors) ≡ c .factors = omega arith in
       record {
         from = omega arith;
         upto = omega arith;
         ready = i .ready;
-        slopes = λ h. absurd (omega arith);
+        slopes = l;
         todo = ap₂ (λ (j : ℕ) (l : List Line). runOps (drop j (operations c)) l) none (i .lines);
         untested = ap₂ (λ (j m : ℕ). wellFormedOps m (drop j (operations c))) none all ∙ W.by-operations c (n .fits) (n .array);
       }
@@ -196,7 +208,7 @@ module _ {c : Codelist} {rs : List Range} {t : List ℤ} {s : List ℕ} {g : Lis
   final-fine = p .ran .ready .fine (k - 1) (omega (arith, final))
 
   pub final-slopes : g ≡ gradientAt t (k - 1)
-  final-slopes = p .ran .slopes final
+  final-slopes = p .ran .slopes
 
   pub ran-ratable : ratable c ≡ true
   ran-ratable =
@@ -298,13 +310,12 @@ module _ {c : Codelist} {rs : List Range} {t : List ℤ} {s : List ℕ} {g : Lis
 
         pub ran-more : (a : Bool) → a ≡ wellFormedOp k op → a ≡ true → r .valid ≡ true → Ran c rs u v (r .gradient) (k + 1)
         ran-more a e y f =
-            let placed : Placed new t s k u v = record { line = w .line f; others = w .others } in
-            let here : k + 1 - 1 ≡ k = omega arith in
+            let placed = row-placed w f in
             record {
               from = omega (arith, p .ran .from);
               upto = omega (arith, p .more);
               ready = ready-more k new (p .ran .ready) placed (w .fine f);
-              slopes = λ h. w .slopes f ∙ sym (ap (λ (l : Line). l .gradient) (w .line f)) ∙ ap (gradientAt u) (sym here);
+              slopes = row-slopes w f;
               todo = ap (runOps (drop (k + 1 - c .factors) (operations c))) (lines-more k new (p .ran .ready) placed)
                   ∙ sym (step ∙ rw (sym (zero s) ∙ apart, sym (w .tells) ∙ f));
               untested = passed a e y;

@@ -11,7 +11,7 @@ mod run; // run.rt: the run over the lines of a codelist, and the refusals of ra
 mod slopes; // slopes.rt: the slopes of a row, for the members of its set
 mod spectrum; // spectrum.rt: sets of factors, and spectra over them
 mod table; // table.rt: the table of lines
-mod valid; // valid.rt: sums and products of ranges that are known to be valid
+mod valid; // valid.rt: stand-ins for `Range`'s sum and product, of ranges that are known to be valid
 
 // Rates the ranges `xs`, two numbers for each factor. A codelist that can't be rated counts as none, as an empty engine's:
 // one without factors or operations, with too many of them, or with an operation that is not well formed.

@@ -8,9 +8,9 @@ ghost use Rattle.range.specs.Limit.{isValid};
 ghost use Rattle.range.specs.Arithmetic.{inverseOf};
 ghost use Rattle.rules.specs.Formula.{sticky};
 ghost use Rattle.rules.specs.Run.{eachValid};
-ghost use Rattle.rules.specs.Table.{factorRow, addRow, addcRow, mulcRow, mulRow, powRow, invRow, lineOf};
+ghost use Rattle.rules.specs.Table.{factorRow, addRow, addcRow, mulcRow, mulRow, powRow, invRow};
 ghost use Rattle.bounds.specs.Terms.{Told, Fine};
-ghost use Rattle.bounds.specs.Table.{valueAt, gradientAt, lineAt, Blank, Refers, lineWith, Placed, SettledLine, Worked};
+ghost use Rattle.bounds.specs.Table.{valueAt, gradientAt, lineAt, Blank, Refers, lineWith, SettledLine, Worked};
 use super::slopes;
 use super::slopes::Slopes;
 use super::spectrum;
@@ -47,18 +47,24 @@ fn settle(
 }
 
 // 01's row `factor a`; a is counted from 0, and its line is the line a.
-pub(crate) fn factor(t: &mut [i32; 1280], s: &mut [u8; 128], a: usize, r: Range)
+pub(crate) fn factor(t: &mut [i32; 1280], s: &mut [u8; 128], a: usize, r: Range) -> Slopes
     requires { ⌜ a < 8 ⌝ }
     requires { ⌜ Blank (now t) a ⌝ }
     requires { ⌜ isValid r ≡ true ⌝ }
-    ensures { λ _. ⌜ Placed (lineOf (factorRow a r)) (now (t .entry)) (now (s .entry)) a (now (t .exit)) (now (s .exit)) ⌝ }
+    ensures { λ g. ⌜ Worked (factorRow a r) (now (t .entry)) (now (s .entry)) a g (now (t .exit)) (now (s .exit)) ⌝ }
 {
     let zero = Range::ZERO;
     let one = Range::ONE;
+    let mut g = [Range::ZERO; 8];
+    g[a] = one;
     table::sized(t);
     table::sized_sets(s);
     table::put_slope(t, a, a, one);
     table::put_head(t, s, a, r, zero, 1u8 << a, 0);
+    Slopes {
+        gradient: g,
+        valid: true,
+    }
 }
 
 // 01's row `add`.

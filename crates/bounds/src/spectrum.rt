@@ -45,14 +45,9 @@ fn slopes_of(i: usize) -> u16
 
 // The spectrum e over the set b, extended to the set c: 01's lift.
 pub(crate) fn extended(e: Range, b: u8, c: u8) -> Range
-    requires { ⌜ Told e ⌝ }
     ensures { λ r. ⌜ r ≡ extendedOf e b c ⌝ }
 {
-    if b == c {
-        e
-    } else {
-        valid::told_hull(e, Range::ZERO)
-    }
+    if b == c { e } else { e.hull(Range::ZERO) }
 }
 
 // The spectrum of a sum of e over b and f over c: 01's join.
@@ -62,7 +57,7 @@ pub(crate) fn of_sum(e: Range, b: u8, f: Range, c: u8) -> Range
     ensures { λ r. ⌜ r ≡ sumSpectrumOf e b f c ⌝ }
 {
     if are_apart(b, c) {
-        valid::told_hull(e, f)
+        e.hull(f)
     } else {
         valid::told_sum(extended(e, b, b | c), extended(f, c, b | c))
     }

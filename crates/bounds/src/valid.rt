@@ -1,4 +1,4 @@
-// Sums and products of ranges that are known to be valid, and sums and hulls of what an operation gave: the same as those of `Range`, with fewer
+// Stand-ins for `Range`'s sum and product where the operands are known to be valid, or are what an operation gave: the same results, with fewer
 // tests.
 ghost use mathlib.Core.Path.{_≡_};
 ghost use mathlib.Core.Bool.{true};
@@ -6,7 +6,7 @@ ghost use Prim.Native.Nat.{_≤_};
 ghost use lib.IntN.{natAbs};
 ghost use lib.Signed.{leZ};
 ghost use Rattle.range.specs.Limit.{isValid, kept};
-ghost use Rattle.range.specs.Arithmetic.{sumOf, spreadOf, productOf, hullOf};
+ghost use Rattle.range.specs.Arithmetic.{sumOf, spreadOf, productOf};
 ghost use Rattle.range.specs.Steps.{endsBy, sortedOf};
 ghost use Rattle.bounds.specs.Terms.{Told};
 use range::Range;
@@ -16,7 +16,8 @@ fn limited(r: Range) -> Range
     requires { ⌜ leZ (r .low) (r .high) ≡ true ⌝ }
     ensures { λ z. ⌜ z ≡ kept r ⌝ }
 {
-    if (-2_000_000_000 <= r.low) & (r.high <= 2_000_000_000) {
+    let whole = Range::WHOLE;
+    if (whole.low <= r.low) & (r.high <= whole.high) {
         r
     } else {
         Range::OVER
@@ -80,19 +81,6 @@ pub(crate) fn told_sum(x: Range, y: Range) -> Range
 {
     if is_range(x) & is_range(y) {
         sum(x, y)
-    } else {
-        Range::OVER
-    }
-}
-
-// The hull of what two operations gave.
-pub(crate) fn told_hull(x: Range, y: Range) -> Range
-    requires { ⌜ Told x ⌝ }
-    requires { ⌜ Told y ⌝ }
-    ensures { λ r. ⌜ r ≡ hullOf x y ⌝ }
-{
-    if is_range(x) & is_range(y) {
-        x.ends_hull(y)
     } else {
         Range::OVER
     }

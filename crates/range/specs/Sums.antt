@@ -28,11 +28,11 @@ sumOverℤ s f = sumOver (pos 0) _+ℤ_ s f
 abbrev pub at : List Range → ℕ → Range
 at g a = getD g a zeroRange
 
--- The range that two numbers of a list make, from the number m on; past the list's end they are 0.
+-- Ranges as a list of numbers, two for each range: the one whose low end is at the offset m. Past the list's end the numbers are 0.
 abbrev pub pairAt : List ℤ → ℕ → Range
 pairAt t m = fromTo (getD t m (pos 0)) (getD t (m + 1) (pos 0))
 
--- Eight ranges, one for each factor, from the number i on.
+-- Eight ranges in a row of such a list, one for each factor, which begin at the offset i.
 abbrev pub rangesFrom : List ℤ → ℕ → List Range
 rangesFrom t i =
     pairAt t i

@@ -16,6 +16,9 @@ mod power; // power.rt: the power of a range
 mod root; // root.rt: the square root of a product, rounded up
 mod sums; // sums.rt: sums over the factors of a set
 
+// "The limit is 2,000,000,000 units, either sign."
+const LIMIT: i64 = 2_000_000_000;
+
 pub struct Range {
     pub low: i64,
     pub high: i64,
@@ -58,8 +61,8 @@ impl Range {
     };
 
     pub const WHOLE: Range = Range {
-        low: -2_000_000_000,
-        high: 2_000_000_000,
+        low: -LIMIT,
+        high: LIMIT,
     };
 
     pub const OVER: Range = Range { low: 1, high: 0 };
@@ -77,10 +80,11 @@ impl Range {
     pub fn valid(self) -> bool
         ensures { λ r. ⌜ r ≡ isValid self ⌝ }
     {
-        (-2_000_000_000 <= self.low) & ((self.low <= self.high) & (self.high <= 2_000_000_000))
+        let whole = Range::WHOLE;
+        (whole.low <= self.low) & ((self.low <= self.high) & (self.high <= whole.high))
     }
 
-    // Whether both ends are 0, as the slopes are of a factor that a line does not depend on: their products need not be worked out.
+    // Whether both ends are 0: a product with such a range need not be worked out.
     pub fn is_zero(self) -> bool
         ensures { λ b. ⌜ b ≡ isZero self ⌝ }
     {

@@ -4,7 +4,13 @@ ghost use mathlib.Core.Path.{_≡_};
 ghost use Prim.Native.Nat.{_≤_, _*_};
 ghost use Rattle.exact.specs.Sqrt.{ceilSqrt};
 ghost use Rattle.range.specs.Steps.{aroundRoot};
+use super::LIMIT;
 use super::Range;
+
+// The greatest end, and its square.
+const MOST: u64 = LIMIT as u64;
+
+const MOST_SQUARED: u64 = MOST * MOST;
 
 // Half the number of the binary digits of x.
 fn half_digits(x: u64) -> u32
@@ -40,7 +46,7 @@ fn near_root(x: u64) -> u64
     if 1_000_000 < r {
         r = (r + x / r) / 2 + 1;
     }
-    if r <= 2_000_000_000 { r } else { 2_000_000_000 }
+    if r <= MOST { r } else { MOST }
 }
 
 // The first number from r on whose square is not below x.
@@ -92,7 +98,7 @@ pub fn around_root(x: u64, y: u64) -> Range
     if y == 0 {
         return Range::ZERO;
     }
-    if 4_000_000_000_000_000_000 / y < x {
+    if MOST_SQUARED / y < x {
         return Range::OVER;
     }
     let b = root_up(x * y) as i64;

@@ -1,5 +1,6 @@
 // Sums over the factors of a set: one step, of which only the total counts. A set is a mask whose bit a stands for the factor a, counted
-// from 0. The ranges are read where they lie, in a list of numbers with two for each range, and each once.
+// from 0. The ranges are lent as a list of numbers, two for each range, its low end first. Eight ranges in a row, one for each factor, are told
+// by the offset at which they begin, so that one list may hold many rows. They are read where they lie, and each once.
 ghost use mathlib.Core.Path.{_≡_};
 ghost use mathlib.Core.Bool.{true};
 ghost use Prim.Native.Nat.{_<_};
@@ -13,14 +14,14 @@ ghost use Rattle.range.specs.Steps.{upTo};
 use super::Range;
 use super::root::around_root;
 
-// The number m of a list; 0 past its end.
+// The number of a list at the offset m; 0 past its end.
 fn number_at(t: &[i32], m: usize) -> i64
     ensures { λ r. ⌜ r ≡ getD (now (t .entry)) m (pos 0) ⌝ }
 {
     if m < t.len() { t[m] as i64 } else { 0 }
 }
 
-// The range of the factor a, of the eight from the number i on.
+// The range of the factor a, of the eight that begin at the offset i.
 fn range_at(t: &[i32], i: u16, a: usize) -> Range
     requires { ⌜ a < 8 ⌝ }
     ensures { λ r. ⌜ r ≡ at (rangesFrom (now (t .entry)) i) a ⌝ }
@@ -44,7 +45,7 @@ impl Range {
         self.end_by_end(self).sorted().scaled().from_zero()
     }
 
-    // The ends of the product of two slopes: many are zero.
+    // The ends of a product in a sum, where many ranges are zero.
     fn slopes_product(self, other: Range) -> Range
         requires { ⌜ isValid self ≡ true ⌝ }
         requires { ⌜ isValid other ≡ true ⌝ }
@@ -64,8 +65,8 @@ impl Range {
         self.high as u64
     }
 
-    // 01's Cross over two factors or more, g the eight ranges from the number i on and h those from j on: the sum of the products g_a·h_a over
-    // the factors a in the set, plus from −β to β, β the root of the product of the two sums of squares, rounded up.
+    // 01's Cross over two factors or more, of two rows of eight ranges in the list t, g at the offset i and h at j: the sum of the products g_a·h_a
+    // over the factors a in the set, plus from −β to β, β the root of the product of the two sums of squares, rounded up.
     pub fn cross(set: u8, t: &[i32], i: u16, j: u16) -> Range
         ensures { λ r. ⌜ r ≡ sumOf
             (productsOf set (rangesFrom (now (t .entry)) i) (rangesFrom (now (t .entry)) j))
@@ -95,7 +96,7 @@ impl Range {
             .sum(around_root(left.magnitude(), right.magnitude()))
     }
 
-    // From 0 to the sum of the largest squares of the g_a over the factors a in the set, g the eight ranges from the number i on.
+    // From 0 to the sum of the largest squares of the g_a over the factors a in the set, g the eight ranges of the list t at the offset i.
     pub fn sum_of_squares(set: u8, t: &[i32], i: u16) -> Range
         ensures { λ r. ⌜ r ≡ squaresOf set (rangesFrom (now (t .entry)) i) ⌝ }
     {

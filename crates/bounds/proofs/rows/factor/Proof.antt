@@ -2,7 +2,7 @@
 use borrow.Author.Needs.{needs}
 use mathlib.Core.Logic.{inl}
 use native.Mathlib.Omega.{arith}
-use Rattle.bounds.proofs.Factors.{one-valid, factor-placed}
+use Rattle.bounds.proofs.Factors.{one-valid, factor-placed, factor-worked}
 use Rattle.bounds.proofs.Validity.{zero-valid}
 use Rattle.bounds.proofs.rows.factor.Statement.{statement}
 use Rattle.bounds.proofs.rows.factor.Tie as tie
@@ -23,13 +23,16 @@ returns c =
     let sets = slope .before .before in
     let sized = sets .before .before in
     let s = sized .before .before in
-    factor-placed _ (s .args .a) (s .pre .0) (sized .sized .ensures) (s .pre .1 .0) _ (slope .put-slope .ensures)
-    (s .args .r) _ _ _ (c .put-head .ensures) (sets .sized-sets .ensures)
+    factor-worked (s .args .a) (s .pre .0) (s .args .r) (s .pre .1 .1)
+    (factor-placed _ (s .args .a) (s .pre .0) (sized .sized .ensures) (s .pre .1 .0) _ (slope .put-slope .ensures)
+    (s .args .r) _ _ _ (c .put-head .ensures) (sets .sized-sets .ensures))
 
 pub factor-spec : {M : Type 1} → statement M
 factor-spec =
     tie.close
     (tie.spec
+    (λ c. search needs)
+    (λ c. omega (arith, c .pre .0))
     (λ c κs. search needs)
     (λ c κs. search needs)
     put-slope-requires

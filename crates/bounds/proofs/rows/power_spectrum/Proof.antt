@@ -1,17 +1,8 @@
 -- `bounds::rows::power_spectrum` meets its contract. Assumes nothing.
 use borrow.Author.Needs.{needs}
-use mathlib.Core.Path.{ap, _∙_}
-use Rattle.range.specs.Limit.{isValid}
 use Rattle.rules.specs.Table.{powRow}
-use Rattle.bounds.proofs.Operands.{told-valid}
-use Rattle.bounds.proofs.Validity.{spectrum-valid}
 use Rattle.bounds.proofs.rows.power_spectrum.Statement.{statement}
 use Rattle.bounds.proofs.rows.power_spectrum.Tie as tie
-
-extended-requires : tie.Need-extended-requires
-extended-requires c κs =
-    let start = c .before .before .before .before .before .before in
-    told-valid _ (ap isValid (c .before .spectrum .ensures) ∙ spectrum-valid _ (start .pre .1 .0 .valid))
 
 returns : tie.Need-returns
 unfolding powRow
@@ -46,7 +37,7 @@ power-spectrum-spec =
     (λ c κs. search needs)
     (λ c κs. search needs)
     (λ c κs. search needs)
-    extended-requires
+    (λ c κs. search needs)
     (λ c κs. search needs)
     (λ c. search needs)
     (λ c κs. search needs)

@@ -97,6 +97,6 @@ product-spectrum-spec =
     product-requires-2
     of-sum-requires
     of-cross-requires
-    (λ c κs. own-told (c .before))
+    (λ c κs. search needs)
     told-sum-requires
     returns)

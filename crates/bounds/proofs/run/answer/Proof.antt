@@ -84,10 +84,10 @@ start-requires c κs =
     let good = c .before .before in
     let bad = good .before in
     let xs = start good .args .xs .now in
-    (R.ready-none 1280 _, (pairs-count xs _ (bad .before .if2 .left), (R.counts (counted (bad .before .before)) .factors .1, none-bad (pairs xs) 0 (sym (bad .first-bad .ensures) ∙ good .if3 .left))))
+    (R.ready-none 1280 _, (pairs-count xs _ (bad .before .if2 .left), (R.counts (counted (bad .before .before)) .factors, none-bad (pairs xs) 0 (sym (bad .first-bad .ensures) ∙ good .if3 .left))))
 
 loop-holds : tie.Need-loop-holds Inv-loop μ-loop
-loop-holds c = R.ran-start _ _ _ _ _ _ (counted (c .before .before .before .before .before .before)) refl (c .start .ensures)
+loop-holds c = R.ran-start _ _ _ _ _ _ (counted (c .before .before .before .before .before .before)) refl (c .start .ensures .0) (c .start .ensures .1)
 
 element-copy-out-entry : tie.Need-element-copy-out-entry Inv-loop μ-loop
 element-copy-out-entry c = omega (arith, R.inside (going c))
@@ -104,11 +104,11 @@ inverts-zero-requires c κs =
     let p = going (w .before .before) in
     (R.well p _ _ (w .is-op-well-formed .ensures) (not-false _ (c .before .if4 .left)), R.inside p)
 
-cast-t46 : tie.Need-cast-t46 Inv-loop μ-loop
-cast-t46 c = omega (arith, R.inside (going (turn (c .before))))
+cast-t44 : tie.Need-cast-t44 Inv-loop μ-loop
+cast-t44 c = omega (arith, R.inside (going (turn (c .before))))
 
-add-t47 : tie.Need-add-t47 Inv-loop μ-loop
-add-t47 c = omega (arith, R.inside (going (turn (c .before))))
+add-t45 : tie.Need-add-t45 Inv-loop μ-loop
+add-t45 c = omega (arith, R.inside (going (turn (c .before))))
 
 returns-5 : tie.Need-returns-5 Inv-loop μ-loop
 returns-5 c =
@@ -123,11 +123,11 @@ work-requires c κs =
     let p = going (w .before .before) in
     (R.well p _ _ (w .is-op-well-formed .ensures) (not-false _ (test .if4 .left)), (p .ran .ready, R.inside p))
 
-cast-t52 : tie.Need-cast-t52 Inv-loop μ-loop
-cast-t52 c = omega (arith, R.inside (going (turn (c .before .before .before .before .before .before))))
+cast-t50 : tie.Need-cast-t50 Inv-loop μ-loop
+cast-t50 c = omega (arith, R.inside (going (turn (c .before .before .before .before .before .before))))
 
-add-t53 : tie.Need-add-t53 Inv-loop μ-loop
-add-t53 c = omega (arith, R.inside (going (turn (c .before .before .before .before .before .before))))
+add-t51 : tie.Need-add-t51 Inv-loop μ-loop
+add-t51 c = omega (arith, R.inside (going (turn (c .before .before .before .before .before .before))))
 
 returns-6 : tie.Need-returns-6 Inv-loop μ-loop
 returns-6 c =
@@ -190,13 +190,13 @@ answer-spec =
     (λ c κs. search needs)
     returns-4
     inverts-zero-requires
-    cast-t46
-    add-t47
+    cast-t44
+    add-t45
     (λ c κs. search needs)
     returns-5
     work-requires
-    cast-t52
-    add-t53
+    cast-t50
+    add-t51
     (λ c κs. search needs)
     returns-6
     (λ c. search needs)

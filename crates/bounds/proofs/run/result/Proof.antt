@@ -1,16 +1,13 @@
 -- `bounds::run::result` meets its contract. Assumes nothing.
 use borrow.Author.Needs.{needs}
-use mathlib.Core.Path.{_≡_, ap, _∙_}
+use mathlib.Core.Path.{_≡_, _∙_}
 use native.Mathlib.Omega.{arith}
 use Prim.Native.Nat.{ℕ, _-_, _≤_, _^_, _*_, _%_}
 use lib.Dec.{lit<}
 use lib.Pow.{pow-pos, pow-mono}
-use Rattle.range.specs.Limit.{isValid}
 use Rattle.rules.specs.Rate.{limitsOf, rated}
 use Rattle.bounds.specs.Terms.{extendedOf}
 use Rattle.bounds.proofs.Factors.{shifted}
-use Rattle.bounds.proofs.Operands.{told-valid}
-use Rattle.bounds.proofs.Validity.{spectrum-valid}
 use Rattle.bounds.proofs.run.result.Statement.{statement}
 use Rattle.bounds.proofs.run.result.Tie as tie
 
@@ -25,12 +22,6 @@ cast-all : tie.Need-cast-all
 cast-all c =
     let start = c .before .before .before in
     rw (all-of _ (start .pre .0)) (omega (arith, pow-mono {i = start .args .n} {j = 8} (start .pre .0)))
-
-extended-requires : tie.Need-extended-requires
-extended-requires c κs =
-    let spectrum = c .before in
-    let fine = spectrum .before .before .pre .1 .1 .0 in
-    told-valid _ (ap isValid (spectrum .spectrum .ensures) ∙ spectrum-valid _ (fine .valid))
 
 returns : tie.Need-returns
 unfolding limitsOf
@@ -62,6 +53,6 @@ result-spec =
     (λ c. search needs)
     sub-all
     cast-all
-    extended-requires
+    (λ c κs. search needs)
     (λ c κs. search needs)
     returns)

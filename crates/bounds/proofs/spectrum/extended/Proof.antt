@@ -2,18 +2,14 @@
 use borrow.Author.Needs.{needs}
 use borrow.Author.Tests.{eq-eqb, ne-eqb}
 use Rattle.range.proofs.Fitting.{branching}
-use Rattle.bounds.proofs.Validity.{zero-valid}
 use Rattle.bounds.proofs.spectrum.extended.Statement.{statement}
 use Rattle.bounds.proofs.spectrum.extended.Tie as tie
-
-told-hull-requires : tie.Need-told-hull-requires
-told-hull-requires c κs = (c .before .pre, zero-valid)
 
 returns : tie.Need-returns
 returns c = search (needs, branching, eq-eqb)
 
 returns-2 : tie.Need-returns-2
-returns-2 c = search (needs, branching, ne-eqb, c .told-hull .ensures)
+returns-2 c = search (needs, branching, ne-eqb, c .hull .ensures)
 
 pub extended-spec : {M : Type 1} → statement M
-extended-spec = tie.close (tie.spec told-hull-requires returns returns-2)
+extended-spec = tie.close (tie.spec (λ c κs. tt) returns returns-2)
