@@ -57,7 +57,7 @@ pub(crate) fn of_sum(e: Range, b: u8, f: Range, c: u8) -> Range
     ensures { λ r. ⌜ r ≡ sumSpectrumOf e b f c ⌝ }
 {
     if are_apart(b, c) {
-        e.hull(f)
+        valid::told_hull(e, f)
     } else {
         valid::told_sum(extended(e, b, b | c), extended(f, c, b | c))
     }

@@ -1,12 +1,12 @@
-// Stand-ins for `Range`'s sum and product where the operands are known to be valid, or are what an operation gave: the same results, with fewer
-// tests.
+// Stand-ins for `Range`'s sum, product and hull where the operands are known to be valid, or are what an operation gave: the same results, with
+// fewer tests. The methods in their place were measured: all of them take a quarter more time, and the hull of a join alone 3 % (bench/README.md).
 ghost use mathlib.Core.Path.{_≡_};
 ghost use mathlib.Core.Bool.{true};
 ghost use Prim.Native.Nat.{_≤_};
 ghost use lib.IntN.{natAbs};
 ghost use lib.Signed.{leZ};
 ghost use Rattle.range.specs.Limit.{isValid, kept};
-ghost use Rattle.range.specs.Arithmetic.{sumOf, spreadOf, productOf};
+ghost use Rattle.range.specs.Arithmetic.{sumOf, spreadOf, productOf, hullOf};
 ghost use Rattle.range.specs.Steps.{endsBy, sortedOf};
 ghost use Rattle.bounds.specs.Terms.{Told};
 use range::Range;
@@ -81,6 +81,19 @@ pub(crate) fn told_sum(x: Range, y: Range) -> Range
 {
     if is_range(x) & is_range(y) {
         sum(x, y)
+    } else {
+        Range::OVER
+    }
+}
+
+// The hull of what two operations gave.
+pub(crate) fn told_hull(x: Range, y: Range) -> Range
+    requires { ⌜ Told x ⌝ }
+    requires { ⌜ Told y ⌝ }
+    ensures { λ r. ⌜ r ≡ hullOf x y ⌝ }
+{
+    if is_range(x) & is_range(y) {
+        x.ends_hull(y)
     } else {
         Range::OVER
     }

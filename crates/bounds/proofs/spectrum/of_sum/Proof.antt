@@ -16,7 +16,7 @@ told-sum-requires c κs =
     )
 
 returns : tie.Need-returns
-returns c = search (needs, branching, c .hull .ensures)
+returns c = search (needs, branching, c .told-hull .ensures)
 
 returns-2 : tie.Need-returns-2
 returns-2 c = search (needs, branching, c .told-sum .ensures, c .before .extended2 .ensures, c .before .before .extended .ensures)
