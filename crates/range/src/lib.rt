@@ -317,12 +317,13 @@ impl Range {
         }
     }
 
-    // The least range that holds both.
+    // The least range that holds both. Its ends are worked out before the test, which spares the processor a branch.
     pub fn hull(self, other: Range) -> Range
         ensures { λ r. ⌜ r ≡ hullOf self other ⌝ }
     {
+        let both = self.ends_hull(other);
         if self.both_valid(other) {
-            self.ends_hull(other)
+            both
         } else {
             Range::OVER
         }
