@@ -16,7 +16,8 @@ use Rattle.codelist.specs.declared.Op.the-variants as op
 use Rattle.codelist.specs.declared.Refusal.{Refusal}
 use Rattle.codelist.specs.declared.Refusal.the-variants.{Reference, Exponent, Constant}
 use Rattle.codelist.specs.Text.{IsNumeral, HasNumerals}
-use Rattle.codelist.specs.Codelist.{limit, Earlier, WellFormedOp}
+use Rattle.exact.specs.Units.{limit}
+use Rattle.codelist.specs.Codelist.{Earlier, WellFormedOp}
 use Rattle.codelist.specs.Write.{plain, numeralOf, textLineOf}
 use Rattle.codelist.specs.Conditions.{isBetween, refersBack, exponentFits, constantFits}
 use Rattle.codelist.specs.Load.{valueOf, opOf, checkedOf}

@@ -18,7 +18,7 @@ use mir.Val.{SFits, toZ, ofZ}
 use borrow.Author.Tests.{lt-ltb, le-ltb, ne-eqb, eq-eqb, leb-true}
 use Rattle.codelist.specs.declared.Numeral.{Numeral}
 use Rattle.codelist.specs.Read.{peek, rest, digit, digits, literal, good, bad}
-use Rattle.codelist.specs.Codelist.{limit}
+use Rattle.exact.specs.Units.{limit}
 use Rattle.codelist.specs.Conditions.{isBetween}
 
 pub peek-in : (s : List ℕ) (i : ℕ) → i < length s → peek (drop i s) ≡ getD s i 0

@@ -11,7 +11,8 @@ use borrow.Author.Tests.{le-leb, leb-true}
 use Rattle.codelist.specs.declared.Entry.{Entry}
 use Rattle.codelist.specs.declared.Op.{Op}
 use Rattle.codelist.specs.declared.Op.the-variants.{Add, Mul, AddC, MulC, Pow, Inv}
-use Rattle.codelist.specs.Codelist.{limit, Earlier, WellFormedOp, WellFormedOps, isEarlier, isExponent, isConstant}
+use Rattle.exact.specs.Units.{limit}
+use Rattle.codelist.specs.Codelist.{Earlier, WellFormedOp, WellFormedOps, isEarlier, isExponent, isConstant}
 use Rattle.codelist.specs.Codelist.{wellFormedOp, wellFormedOps}
 use Rattle.codelist.proofs.Laws.{both-true, both-made}
 

@@ -9,14 +9,11 @@ use lib.Dec.{leb, eqb}
 use lib.IntN.{ℤ, pos, negsuc, natAbs}
 use lib.ListN.{length, take, drop, replicate}
 use lib.Signed.{leZ}
+use Rattle.exact.specs.Units.{limit}
 use Rattle.codelist.specs.declared.Codelist.{Codelist}
 use Rattle.codelist.specs.declared.Entry.{Entry}
 use Rattle.codelist.specs.declared.Op.{Op}
 use Rattle.codelist.specs.declared.Op.the-variants.{Add, Mul, AddC, MulC, Pow, Inv}
-
--- "The limit is 2,000,000,000 units, either sign."
-abbrev pub limit : ℕ
-limit = 2_000_000_000
 
 -- The entry past the last operation: no operation refers to line 0
 abbrev pub blank : Entry

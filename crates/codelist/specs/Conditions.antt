@@ -5,7 +5,7 @@ use lib.Dec.{leb}
 use Rattle.codelist.specs.Text.{TextLine}
 use Rattle.codelist.specs.Text.{Add, Mul, AddC, MulC, Pow, Inv}
 use Rattle.codelist.specs.declared.Numeral.{Numeral}
-use Rattle.codelist.specs.Codelist.{limit}
+use Rattle.exact.specs.Units.{limit}
 
 -- low ≤ w ≤ high, for bounds that are not negative
 unfoldable pub isBetween : ℕ → ℕ → Numeral → Bool

@@ -13,7 +13,7 @@ use Rattle.codelist.specs.declared.lines.Word.{Word}
 use Rattle.codelist.specs.declared.lines.Word.the-variants as word
 use Rattle.codelist.specs.declared.lines.WordRead as w
 use Rattle.codelist.specs.Read.{Read, good, bad}
-use Rattle.codelist.specs.Codelist.{limit}
+use Rattle.exact.specs.Units.{limit}
 
 abbrev pub ofLiteral : List ℕ → l.LiteralRead → Read Unit
 ofLiteral s (l.the-variants.Good at) = good tt (drop at s)

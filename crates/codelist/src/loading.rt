@@ -3,7 +3,7 @@ ghost use mathlib.Core.Path.{_≡_};
 ghost use mathlib.Core.List.{[]};
 ghost use Prim.Native.Nat.{_≤_, _-_};
 ghost use lib.ListN.{drop};
-ghost use Rattle.codelist.specs.Codelist.{limit};
+ghost use Rattle.exact.specs.Units.{limit};
 ghost use Rattle.codelist.specs.Conditions.{isBetween, refersBack, exponentFits, constantFits};
 ghost use Rattle.codelist.specs.Views.{textLine, Fits};
 ghost use Rattle.codelist.specs.Load.{refused, valueOf, opOf, checkedOf, operationLines};

@@ -12,6 +12,10 @@ scale = 10000
 abbrev pub scale-pos : zero < scale
 scale-pos = lit< tt
 
+-- "The limit is 2,000,000,000 units, either sign."
+abbrev pub limit : ℕ
+limit = 2000000000
+
 -- the number that u units are
 unfoldable pub units : ℤ → ℚ
 units u = ratio u scale scale-pos

@@ -1,16 +1,17 @@
 -- Ranges of whole numbers of units, and which of them count: 01, "What the engine takes and gives", the head of "Range arithmetic", and
 -- refusals 9 and 12.
 use mathlib.Core.Bool.{Bool, _&&_, cond}
-use lib.IntN.{ℤ, pos, negsuc}
+use lib.IntN.{ℤ, pos, negℤ}
 use lib.Signed.{leZ}
+use Rattle.exact.specs.Units.{limit}
 use Rattle.range.specs.declared.Range.{Range}
 
 -- "The limit is 2,000,000,000 units, either sign."
 abbrev pub most : ℤ
-most = pos 2000000000
+most = pos limit
 
 abbrev pub least : ℤ
-least = negsuc 1999999999
+least = negℤ most
 
 abbrev pub fromTo : ℤ → ℤ → Range
 fromTo l h = record { low = l; high = h }

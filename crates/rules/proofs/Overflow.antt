@@ -10,7 +10,8 @@ use lib.ListN.{getD, length}
 use Rattle.algebra.proofs.Int.{ints}
 use Rattle.codelist.specs.declared.Op.{Op}
 use Rattle.codelist.specs.declared.Op.the-variants.{Add, Mul, AddC, MulC, Pow, Inv}
-use Rattle.codelist.specs.Codelist.{limit, WellFormedOp}
+use Rattle.codelist.specs.Codelist.{WellFormedOp}
+use Rattle.exact.specs.Units.{limit}
 use Rattle.range.specs.declared.Range.{Range}
 use Rattle.range.specs.Limit.{fromTo, zeroRange, oneRange, isValid}
 use Rattle.range.specs.Arithmetic.{holdsZero}
