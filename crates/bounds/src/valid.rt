@@ -1,5 +1,5 @@
 // Stand-ins for `Range`'s sum, product and hull where the operands are known to be valid, or are what an operation gave: the same results, with
-// fewer tests. The methods in their place were measured: all of them take a third more time, and the hull of a join alone 3 % (bench/README.md).
+// fewer tests. The methods in their place were measured: all of them take a third more time, and the hull of a join alone 4 % (bench/README.md).
 ghost use mathlib.Core.Path.{_≡_};
 ghost use mathlib.Core.Bool.{true};
 ghost use Prim.Native.Nat.{_≤_};
