@@ -37,7 +37,7 @@ use Rattle.engine.specs.declared.Refusal as refusal
 use Rattle.engine.specs.declared.Refusal.{Refusal}
 use Rattle.engine.specs.declared.Outcome.{Outcome}
 use Rattle.engine.specs.declared.Outcome.the-variants.{Accepted, Refused}
-use Rattle.engine.specs.Engine.{numberOf, placeOf, emptyEngine, loaded, loadedOf, outcomeOf, answerOf, ratedOf}
+use Rattle.engine.specs.Engine.{numberOf, placeOf, emptyEngine, loaded, loadedOf, outcomeOf, asRating, ratedOf}
 use Rattle.engine.specs.Refusals.{RefusedWith, LoadTable, bytes, form, factors, lines, no-operation, reference, exponent, constant}
 use Rattle.engine.specs.Refusals.{RateTable, count, range, no-codelist, divisor, overflow}
 use Rattle.engine.specs.Demands.{Demands}
@@ -278,7 +278,7 @@ demands = record {
   rate-table = λ e xs k p. (to-rate-table e xs, from-rate-table e xs);
   refused-listed = λ e s r. (λ h. listed e s r h, λ w. unlisted e s r w);
   rate-refused-listed = table;
-  published = λ e xs. ap answerOf (published .rating (e .codelist) xs);
+  published = λ e xs. ap asRating (published .rating (e .codelist) xs);
   published-lines = λ e xs h. published .lines (e .codelist) xs (ratedOf e xs .limits) (accepted-rating e xs h);
   empty-refused = λ xs. refl;
   loaded-not-empty = λ e s xs h r. never-ten (loadedOf e s .engine) xs (written e s h .0) r;

@@ -24,7 +24,7 @@ use Rattle.engine.specs.declared.Engine.{Engine}
 use Rattle.engine.specs.declared.Refusal as refusal
 use Rattle.engine.specs.declared.Refusal.{Refusal}
 use Rattle.engine.specs.declared.Outcome.the-variants.{Accepted, Refused}
-use Rattle.engine.specs.Engine.{numberOf, emptyEngine, loadedOf, answerOf, ratedOf}
+use Rattle.engine.specs.Engine.{numberOf, emptyEngine, loadedOf, asRating, ratedOf}
 use Rattle.engine.specs.Refusals.{RefusedWith, LoadTable, RateTable}
 
 pub record Demands : Type 0 where
@@ -55,7 +55,7 @@ pub record Demands : Type 0 where
       → (ratedOf e xs .outcome ≡ Refused (refusal.the-variants.Rate r)) ↔ Rules.RefusedFor (e .codelist) xs r
   -- "Every bound, set and refusal equals what the published Hessian eigenvalue arithmetic yields under 01's rules and outward rounding": of every
   -- engine and all numbers, and, of accepted ranges, line by line
-  pub published : (e : Engine) (xs : List ℤ) → ratedOf e xs ≡ answerOf (publishedOf (e .codelist) xs)
+  pub published : (e : Engine) (xs : List ℤ) → ratedOf e xs ≡ asRating (publishedOf (e .codelist) xs)
   pub published-lines : (e : Engine) (xs : List ℤ) → ratedOf e xs .outcome ≡ Accepted → PublishedLines (e .codelist) xs (ratedOf e xs .limits)
   -- an engine that was started and not loaded is refused with 10, and one that an accepted load left never is
   pub empty-refused : (xs : List ℤ) → ratedOf emptyEngine xs .outcome ≡ Refused (refusal.the-variants.Rate NoCodelist)

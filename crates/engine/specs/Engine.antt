@@ -44,8 +44,8 @@ abbrev pub outcomeOf : rating.Outcome → Outcome
 outcomeOf rating.the-variants.Rated = Accepted
 outcomeOf (rating.the-variants.Refused r) = Refused (refusal.the-variants.Rate r)
 
-abbrev pub answerOf : rules.Rating → Rating
-answerOf r = record { outcome = outcomeOf (r .outcome); limits = r .limits }
+abbrev pub asRating : rules.Rating → Rating
+asRating r = record { outcome = outcomeOf (r .outcome); limits = r .limits }
 
 unfoldable pub ratedOf : Engine → List ℤ → Rating
-ratedOf e xs = answerOf (Rate.rateOf (e .codelist) xs)
+ratedOf e xs = asRating (Rate.rateOf (e .codelist) xs)

@@ -1,6 +1,6 @@
 // The engine of 01 (its "desk"): it holds one codelist or none, loads one from bytes, and rates ranges against it.
 ghost use mathlib.Core.Path.{_≡_};
-ghost use Rattle.engine.specs.Engine.{numberOf, placeOf, emptyEngine, loaded, loadedOf, outcomeOf, answerOf, ratedOf};
+ghost use Rattle.engine.specs.Engine.{numberOf, placeOf, emptyEngine, loaded, loadedOf, outcomeOf, asRating, ratedOf};
 ghost use Rattle.rules.specs.Rate;
 use codelist::Codelist;
 use rules::Limits;
@@ -113,13 +113,13 @@ impl Engine {
         ensures { λ r. ⌜ r ≡ ratedOf self (now (ranges .entry)) ⌝ }
     {
         let c = self.codelist;
-        answer(bounds::rate(c, ranges))
+        as_rating(bounds::rate(c, ranges))
     }
 }
 
-// The engine's answer, of what rating gave.
-fn answer(r: rules::Rating) -> Rating
-    ensures { λ a. ⌜ a ≡ answerOf r ⌝ }
+// What rating gave, as the engine's answer.
+fn as_rating(r: rules::Rating) -> Rating
+    ensures { λ a. ⌜ a ≡ asRating r ⌝ }
 {
     let outcome = r.outcome;
     let limits = r.limits;
