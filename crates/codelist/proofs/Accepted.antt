@@ -55,7 +55,7 @@ load-complete c w =
 
     upto : Upto (textOf c) n xs []
     upto = record {
-      short = text-length (plain n) xs (omega (arith, taken c w, w .few));
+      short = omega (arith, text-length c w);
       factors = w .factors;
       few = omega (arith, taken c w, w .few);
       each = w .each;

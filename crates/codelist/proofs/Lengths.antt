@@ -1,48 +1,102 @@
--- The text of a well formed codelist is far below 4,096 bytes, so that the limit on the bytes is no condition on the codelist.
-use Prim.Native.Nat.{ℕ, suc, zero, _+_, _*_, _/_, _≤_}
+-- The text of a well formed codelist has at most 1,261 bytes: the limit of 4,096 on a sheet's bytes is no condition on the codelist.
+use Prim.Native.Nat.{ℕ, suc, zero, _+_, _-_, _*_, _/_, _%_, _≤_, _<_}
 use mathlib.Core.Bool.{Bool, true, false, cond}
 use mathlib.Core.List.{List, [], _∷_, _++_}
+use mathlib.Core.Path.{_≡_, refl}
+use native.Mathlib.Decide.{decLt}
 use native.Mathlib.Omega.{arith}
 use lib.Dec.{ltb}
-use lib.ListN.{length, length-append}
+use lib.ListN.{length, take, length-append}
+use borrow.Author.Tests.{lt-ltb, le-ltb}
+use Rattle.codelist.specs.declared.Codelist.{Codelist}
 use Rattle.codelist.specs.declared.Entry.{Entry}
-use Rattle.codelist.specs.Text.{TextLine}
-use Rattle.codelist.specs.Text.{Add, Mul, AddC, MulC, Pow, Inv}
 use Rattle.codelist.specs.declared.Numeral.{Numeral}
-use Rattle.codelist.specs.Text.{decimal, numeralText, two, firstText, lineText, add→, mul→, addc→, mulc→, pow→}
-use Rattle.codelist.specs.Write.{textLineOf, opsText}
+use Rattle.codelist.specs.declared.Op.{Op}
+use Rattle.codelist.specs.declared.Op.the-variants.{Add, Mul, AddC, MulC, Pow, Inv}
+use Rattle.codelist.specs.Codelist.{WellFormedOp, WellFormedOps, WellFormed}
+use Rattle.codelist.specs.Text.{decimal, numeralText, lineText}
+use Rattle.codelist.specs.Write.{plain, numeralOf, textLineOf, opsText, textOf}
+use Rattle.codelist.proofs.Ratable.{taken, well-formed-ratable}
 
-either : (b : Bool) (x y : List ℕ) (n : ℕ) → length x ≤ n → length y ≤ n → length (cond b x y) ≤ n
-either true x y n p q = p
-either false x y n p q = q
+-- ---- the digits of a number
+pub one-digit : (k m : ℕ) → m < 10 → length (decimal k m) ≡ 1
+unfolding decimal
+one-digit zero m h = refl
+one-digit (suc k) m h = rw (lt-ltb m 10 h)
 
-decimal-length : (k m : ℕ) → length (decimal k m) ≤ k + 1
+pub more-digits : (k m : ℕ) → 10 ≤ m → length (decimal (suc k) m) ≡ length (decimal k (m / 10)) + 1
+unfolding decimal
+more-digits k m h = rw (le-ltb m 10 h) (length-append (decimal k (m / 10)) ((48 + m % 10) ∷ []))
+
+pub decimal-length : (k m : ℕ) → length (decimal k m) ≤ suc k
 unfolding decimal
 decimal-length zero m = omega arith
-decimal-length (suc k) m =
-    either (ltb m 10) _ _ (suc k + 1) (omega arith)
-    (simp length-append (omega (arith, decimal-length k (m / 10))))
+decimal-length (suc k) m = go (decLt m 10) (decimal-length k (m / 10))
+  where
+    go : Dec (m < 10) → length (decimal k (m / 10)) ≤ suc k → length (decimal (suc k) m) ≤ suc (suc k)
+    go (yes p) h = omega (arith, one-digit (suc k) m p)
+    go (no p) h = omega (arith, more-digits k m (omega arith))
 
 numeral-length : (w : Numeral) → length (numeralText w) ≤ 11
 unfolding numeralText
-numeral-length w =
-    let d : length (decimal 9 (w .magnitude)) ≤ 10 = decimal-length 9 (w .magnitude) in
-    either (w .negative) _ _ 11 (omega arith) (omega arith)
+numeral-length w = either (w .negative)
+  where
+    either : (b : Bool) → length (cond b (45 ∷ decimal 9 (w .magnitude)) (decimal 9 (w .magnitude))) ≤ 11
+    either true = omega (arith, decimal-length 9 (w .magnitude))
+    either false = omega (arith, decimal-length 9 (w .magnitude))
 
-two-length : (w : List ℕ) (i j : Numeral) → length w ≤ 5 → length (two w i j) ≤ 29
-two-length w i j h = simp length-append (omega (arith, numeral-length i, numeral-length j))
+-- ---- the lines
+-- the references to the first e lines have at most k digits
+abbrev Digits : ℕ → ℕ → Type 0
+Digits e k = (i : ℕ) → i ≤ e → length (numeralText (plain i)) ≤ k
 
-line-length : (l : TextLine) → length (lineText l) ≤ 29
-line-length (Add i j) = two-length add→ i j (omega arith)
-line-length (Mul i j) = two-length mul→ i j (omega arith)
-line-length (AddC i c) = two-length addc→ i c (omega arith)
-line-length (MulC i c) = two-length mulc→ i c (omega arith)
-line-length (Pow i m) = two-length pow→ i m (omega arith)
-line-length (Inv i) = simp length-append (omega (arith, numeral-length i))
+one-each : (e : ℕ) → e < 10 → Digits e 1
+unfolding numeralText
+one-each e h i p = omega (arith, one-digit 9 i (omega arith))
 
-ops-length : (xs : List Entry) → length (opsText xs) ≤ 29 * length xs
-ops-length [] = omega arith
-ops-length (x ∷ xs) = simp length-append (omega (arith, line-length (textLineOf (x .op)), ops-length xs))
+two-each : (e : ℕ) → e < 64 → Digits e 2
+unfolding numeralText
+two-each e h i p = go (decLt i 10)
+  where
+    go : Dec (i < 10) → length (decimal 9 i) ≤ 2
+    go (yes q) = omega (arith, one-digit 9 i q)
+    go (no q) = omega (arith, more-digits 8 i (omega arith), one-digit 8 (i / 10) (omega arith))
 
-pub text-length : (n : Numeral) (xs : List Entry) → length xs ≤ 64 → length (firstText n ++ opsText xs) ≤ 4096
-text-length n xs h = simp length-append (omega (arith, numeral-length n, ops-length xs))
+-- the longest line has a constant of ten digits with a minus sign
+line-length : (e k : ℕ) (o : Op) → WellFormedOp e o → Digits e k → k ≤ 2 → length (lineText (textLineOf o)) ≤ 18 + k
+line-length e k (Add i j) w d l = simp length-append (omega (arith, d i (w .0 .1), d j (w .1 .1)))
+line-length e k (Mul i j) w d l = simp length-append (omega (arith, d i (w .0 .1), d j (w .1 .1)))
+line-length e k (AddC i c) w d l = simp length-append (omega (arith, d i (w .0 .1), numeral-length (numeralOf c)))
+line-length e k (MulC i c) w d l = simp length-append (omega (arith, d i (w .0 .1), numeral-length (numeralOf c)))
+line-length e k (Pow i m) w d l = simp length-append (omega (arith, d i (w .0 .1), numeral-length (plain m)))
+line-length e k (Inv i) w d l = simp length-append (omega (arith, d i (w .1)))
+
+-- operations one after another, the first with e lines before it: 20 bytes each, and one fewer in each of those that have fewer than ten before them
+record Most (e m n : ℕ) : Type 0 where
+  each : n ≤ 20 * m
+  later : n ≤ 19 * m + (e + m - 10)
+
+ops-length : (e : ℕ) (xs : List Entry) → WellFormedOps e xs → e + length xs ≤ 64 → Most e (length xs) (length (opsText xs))
+ops-length e [] w l = record { each = omega arith; later = omega arith }
+ops-length e (x ∷ xs) w l = go (decLt e 10) (ops-length (e + 1) xs (w .1) (omega arith))
+  where
+    go : Dec (e < 10) → Most (e + 1) (length xs) (length (opsText xs)) → Most e (length (x ∷ xs)) (length (opsText (x ∷ xs)))
+    go (yes p) h =
+        let here = line-length e 1 (x .op) (w .0) (one-each e p) (omega arith) in record {
+          each = simp length-append (omega (arith, here, h .each));
+          later = simp length-append (omega (arith, here, h .later));
+        }
+    go (no p) h =
+        let here = line-length e 2 (x .op) (w .0) (two-each e (omega arith)) (omega arith) in record {
+          each = simp length-append (omega (arith, here, h .each));
+          later = simp length-append (omega (arith, here, h .each));
+        }
+
+pub text-length : (c : Codelist) → WellFormed c → length (textOf c) ≤ 1261
+unfolding textOf numeralText
+text-length c w =
+    let n = c .factors in
+    let xs = take (c .count) (c .ops) in
+    let count = taken c (well-formed-ratable w) in
+    let ops = ops-length n xs (w .each) (omega (arith, count, w .few)) in
+    simp length-append (omega (arith, w .factors, one-digit 9 n (omega (arith, w .factors)), ops .later, count, w .few))
