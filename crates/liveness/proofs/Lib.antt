@@ -1,0 +1,17 @@
+pub mod References
+pub mod Positions
+pub mod Operations
+pub mod Used
+pub mod Simulation
+pub mod Tidied
+pub mod Again
+pub mod Same
+pub mod Lengths
+pub mod Calls
+pub mod Refusals
+pub mod Tables
+pub mod Lines
+pub mod Written
+pub mod Printed
+pub mod Engine
+pub mod Promises
