@@ -1,10 +1,10 @@
--- `liveness::mark` meets its contract. Assumes nothing.
+-- `marks::mark` meets its contract. Assumes nothing.
 use mathlib.Core.Bool.{true}
 use mathlib.Core.Path.{sym}
 use lib.Seq.{set-out}
 use borrow.Author.Needs.{needs}
-use Rattle.liveness.proofs.mark.Statement.{statement}
-use Rattle.liveness.proofs.mark.Tie as tie
+use Rattle.liveness.proofs.marks.mark.Statement.{statement}
+use Rattle.liveness.proofs.marks.mark.Tie as tie
 
 returns-2 : tie.Need-returns-2
 returns-2 c = sym (set-out (c .before .args .used) (c .before .args .i) true (search needs))

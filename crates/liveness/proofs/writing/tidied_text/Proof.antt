@@ -1,4 +1,4 @@
--- `liveness::tidied_text` meets its contract: the first line, and then the kept ones. Assumes nothing.
+-- `writing::tidied_text` meets its contract: the first line, and then the kept ones. Assumes nothing.
 use Prim.Native.Nat.{ℕ}
 use mathlib.Core.List.{List, _++_}
 use mathlib.Core.Path.{sym, ap, _∙_}
@@ -11,8 +11,8 @@ use Rattle.liveness.proofs.Lengths.{text-is}
 use Rattle.liveness.proofs.Lines.{single-text}
 use Rattle.liveness.proofs.Written.{ready}
 use borrow.Author.Needs.{needs}
-use Rattle.liveness.proofs.tidied_text.Statement.{statement}
-use Rattle.liveness.proofs.tidied_text.Tie as tie
+use Rattle.liveness.proofs.writing.tidied_text.Statement.{statement}
+use Rattle.liveness.proofs.writing.tidied_text.Tie as tie
 
 op-lines-requires : tie.Need-op-lines-requires
 op-lines-requires c κs =

@@ -1,9 +1,9 @@
--- `liveness::number` meets its contract. Assumes nothing.
+-- `renumbering::number` meets its contract. Assumes nothing.
 use mathlib.Core.Path.{sym}
 use lib.ListN.{List·getD-eq-default}
 use borrow.Author.Needs.{needs}
-use Rattle.liveness.proofs.number.Statement.{statement}
-use Rattle.liveness.proofs.number.Tie as tie
+use Rattle.liveness.proofs.renumbering.number.Statement.{statement}
+use Rattle.liveness.proofs.renumbering.number.Tie as tie
 
 returns-2 : tie.Need-returns-2
 returns-2 c = sym (List·getD-eq-default (c .before .args .t1) 0 (search needs))

@@ -1,11 +1,11 @@
--- `liveness::used_lines` meets its contract: the marks with the operations from index k on seen. Assumes nothing.
+-- `marks::used_lines` meets its contract: the marks with the operations from index k on seen. Assumes nothing.
 use mathlib.Core.Path.{_≡_}
 use native.Mathlib.Omega.{arith}
 use borrow.Author.Needs.{needs}
 use Rattle.codelist.specs.Codelist.{blank}
 use Rattle.liveness.proofs.Tables.{Seen, seen-start, seen-all, seen-used, seen-unused}
-use Rattle.liveness.proofs.used_lines.Statement.{statement}
-use Rattle.liveness.proofs.used_lines.Tie as tie
+use Rattle.liveness.proofs.marks.used_lines.Statement.{statement}
+use Rattle.liveness.proofs.marks.used_lines.Tie as tie
 
 abbrev Inv-loop : tie.InvT-loop
 Inv-loop c n count used₀ k₀ used k = Seen c used k

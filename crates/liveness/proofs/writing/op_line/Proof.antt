@@ -1,4 +1,4 @@
--- `liveness::op_line` meets its contract: each arm is a line of the sheet. Assumes nothing.
+-- `writing::op_line` meets its contract: each arm is a line of the sheet. Assumes nothing.
 use mathlib.Core.Path.{ap, subst}
 use Rattle.codelist.specs.declared.Op.{Op}
 use Rattle.codelist.specs.Text.{lineText, add→, mul→, addc→, mulc→, pow→, inv→}
@@ -7,8 +7,8 @@ use Rattle.codelist.proofs.Laws.{back}
 use Rattle.liveness.specs.Views.{FewDigits}
 use Rattle.liveness.proofs.Lines.{one-line, two-line, signed-line}
 use borrow.Author.Needs.{needs}
-use Rattle.liveness.proofs.op_line.Statement.{statement}
-use Rattle.liveness.proofs.op_line.Tie as tie
+use Rattle.liveness.proofs.writing.op_line.Statement.{statement}
+use Rattle.liveness.proofs.writing.op_line.Tie as tie
 
 returns : tie.Need-returns
 returns c =

@@ -1,4 +1,4 @@
--- `liveness::op_lines` meets its contract: what is left to put is what was to be put at the start. Assumes nothing.
+-- `writing::op_lines` meets its contract: what is left to put is what was to be put at the start. Assumes nothing.
 use Prim.Native.Nat.{ℕ, _+_, _-_, _≤_}
 use mathlib.Core.List.{List}
 use mathlib.Core.Logic.{⊎-elim}
@@ -13,8 +13,8 @@ use Rattle.writer.specs.Lent.{lent, putText}
 use Rattle.writer.proofs.Writing.{kept-length}
 use Rattle.liveness.specs.Tidied.{tidiedOps}
 use Rattle.liveness.proofs.Written.{left, left-start, left-end, left-kept, left-dropped, op-digits, turned}
-use Rattle.liveness.proofs.op_lines.Statement.{statement}
-use Rattle.liveness.proofs.op_lines.Tie as tie
+use Rattle.liveness.proofs.writing.op_lines.Statement.{statement}
+use Rattle.liveness.proofs.writing.op_lines.Tie as tie
 
 abbrev Inv-loop : tie.InvT-loop
 Inv-loop text₀ from numbers c marks n count at₀ k₀ text at k =

@@ -1,10 +1,10 @@
--- `liveness::renumbered` meets its contract. Assumes nothing.
+-- `renumbering::renumbered` meets its contract. Assumes nothing.
 use borrow.Author.Needs.{needs}
 use mathlib.Core.Path.{ap, _∙_}
 use Rattle.codelist.specs.declared.Op.the-variants.{AddC, MulC}
 use Rattle.codelist.proofs.Laws.{back}
-use Rattle.liveness.proofs.renumbered.Statement.{statement}
-use Rattle.liveness.proofs.renumbered.Tie as tie
+use Rattle.liveness.proofs.renumbering.renumbered.Statement.{statement}
+use Rattle.liveness.proofs.renumbering.renumbered.Tie as tie
 
 returns : tie.Need-returns
 returns c = simp (c .before .before .before .op .given .1, c .before .number .ensures, c .number2 .ensures)

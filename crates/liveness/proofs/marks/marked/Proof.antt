@@ -1,7 +1,7 @@
--- `liveness::marked` meets its contract. Assumes nothing.
+-- `marks::marked` meets its contract. Assumes nothing.
 use borrow.Author.Needs.{needs}
-use Rattle.liveness.proofs.marked.Statement.{statement}
-use Rattle.liveness.proofs.marked.Tie as tie
+use Rattle.liveness.proofs.marks.marked.Statement.{statement}
+use Rattle.liveness.proofs.marks.marked.Tie as tie
 
 returns : tie.Need-returns
 returns c = simp (c .before .before .before .op .given .1, c .before .mark .ensures, c .mark2 .ensures)

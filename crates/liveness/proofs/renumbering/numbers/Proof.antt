@@ -1,4 +1,4 @@
--- `liveness::numbers` meets its contract: the numbers of the first i lines are there. Assumes nothing.
+-- `renumbering::numbers` meets its contract: the numbers of the first i lines are there. Assumes nothing.
 use Prim.Native.Nat.{ℕ, _-_}
 use mathlib.Core.Bool.{Bool, false, _||_}
 use mathlib.Core.List.{List}
@@ -10,8 +10,8 @@ use native.Mathlib.Omega.{arith}
 use borrow.Author.Needs.{needs}
 use Rattle.liveness.proofs.Positions.{position-least}
 use Rattle.liveness.proofs.Tables.{Counted, counted-start, counted-next, counted-all, next-kept, next-dropped}
-use Rattle.liveness.proofs.numbers.Statement.{statement}
-use Rattle.liveness.proofs.numbers.Tie as tie
+use Rattle.liveness.proofs.renumbering.numbers.Statement.{statement}
+use Rattle.liveness.proofs.renumbering.numbers.Tie as tie
 
 abbrev keeps : ℕ → List Bool → ℕ → Bool
 keeps n used i = leb i n || getD used i false
