@@ -1,15 +1,17 @@
 -- The digits of a number, found from the last one on, in an array of twenty.
 use Prim.Native.Nat.{ℕ, suc, zero, _+_, _-_, _/_, _%_, _^_, _≤_, _<_}
+use mathlib.Core.Bool.{Bool, true, false, cond}
 use mathlib.Core.List.{List, [], _∷_, _++_, append-assoc, append-nil}
 use mathlib.Core.Path.{_≡_, refl, sym, ap, ap₂, _∙_}
-use native.Mathlib.Decide.{decLt}
-use native.Mathlib.Nat.{pow-succ'}
+use native.Mathlib.Nat.{add-suc, lt-of-lt-of-le, pow-le-pow-right, pow-succ'}
 use native.Mathlib.Numerals.{sub-one}
 use native.Mathlib.Omega.{arith}
-use lib.ListN.{length, take, drop, set, replicate, length-set, length-drop}
+use lib.Dec.{ltb, lit<}
+use lib.ListN.{length, take, drop, set, replicate, length-set, length-drop, length-append}
 use lib.Seq.{take-all, drop-cons, drop-set-lt, getD-set-same, lt-length-set}
 use borrow.Author.Tests.{lt-ltb, le-ltb}
 use Rattle.codelist.specs.Text.{decimal}
+use Rattle.codelist.proofs.NumeralTexts.{decimal-room}
 
 -- One digit is its byte
 pub decimal-digit : (k m : ℕ) → m < 10 → decimal k m ≡ (48 + m) ∷ []
@@ -24,21 +26,25 @@ decimal-more k m h = simp (le-ltb m 10 h)
 
 -- Where the number has at most k + 1 digits, room for more changes nothing: numbers of 64 bits are written as a sheet's are
 decimal-more-room : (k j m : ℕ) → m < 10 ^ suc k → decimal (k + j) m ≡ decimal k m
-decimal-more-room zero j m h = decimal-digit (0 + j) m (omega arith) ∙ sym (decimal-digit 0 m (omega arith))
-decimal-more-room (suc k) j m h = go (decLt m 10) (decimal-more-room k j (m / 10))
+decimal-more-room k zero m h = let a : k + 0 ≡ k = omega arith in rw a
+decimal-more-room k (suc j) m h = rw (add-suc k j) (decimal-room (k + j) m (lt-of-lt-of-le h more) ∙ decimal-more-room k j m h)
   where
-    a : suc k + j ≡ suc (k + j)
-    a = omega arith
-
-    go : Dec (m < 10) → (m / 10 < 10 ^ suc k → decimal (k + j) (m / 10) ≡ decimal k (m / 10)) → decimal (suc k + j) m ≡ decimal (suc k) m
-    go (yes p) ih = decimal-digit (suc k + j) m p ∙ sym (decimal-digit (suc k) m p)
-    go (no p) ih =
-        let q : 10 ≤ m = omega arith in
-        ap (λ (n : ℕ). decimal n m) a ∙ decimal-more (k + j) m q
-        ∙ ap (λ (l : List ℕ). l ++ ((48 + m % 10) ∷ [])) (ih (omega (arith, pow-succ' 10 (suc k)))) ∙ sym (decimal-more k m q)
+    more : 10 ^ suc k ≤ 10 ^ suc (k + j)
+    more = pow-le-pow-right {n = 10} (lit< tt) {i = suc k} {j = suc (k + j)} (omega arith)
 
 pub decimal-few : (m : ℕ) → m < 10 ^ 10 → decimal 19 m ≡ decimal 9 m
 decimal-few m h = decimal-more-room 9 10 m h
+
+-- It has at most as many bytes as there is room for
+pub decimal-length : (k m : ℕ) → length (decimal k m) ≤ suc k
+unfolding decimal
+decimal-length zero m = omega arith
+decimal-length (suc k) m = go (ltb m 10) (decimal-length k (m / 10))
+  where
+    go : (b : Bool) → length (decimal k (m / 10)) ≤ suc k
+        → length (cond b ((48 + m) ∷ []) (decimal k (m / 10) ++ ((48 + m % 10) ∷ []))) ≤ suc (suc k)
+    go true h = omega arith
+    go false h = simp length-append (omega arith)
 
 drop-set : (l : List ℕ) (i a : ℕ) → i < length l → drop i (set l i a) ≡ a ∷ drop (suc i) l
 drop-set l i a h =

@@ -2,13 +2,14 @@
 use Prim.Native.Nat.{ℕ, suc, _+_, _≤_, _<_}
 use mathlib.Core.Bool.{Bool, true, false, cond}
 use mathlib.Core.List.{List, [], _∷_, _++_}
-use mathlib.Core.Path.{_≡_, refl, ap, _∙_}
+use mathlib.Core.Path.{_≡_, refl, sym, ap, _∙_}
+use native.Mathlib.Decide.{decLe}
 use native.Mathlib.Numerals.{add-one}
 use native.Mathlib.Omega.{arith}
 use lib.Dec.{ltb}
-use lib.ListN.{length, getD, drop, set, length-set}
-use lib.Seq.{drop-cons, sets, sets-eq}
-use borrow.Author.Tests.{lt-ltb, ltb-true}
+use lib.ListN.{length, getD, take, drop, set, length-set, take-append-drop, drop-of-length-le}
+use lib.Seq.{drop-cons, sets, sets-eq, take-all, length-take-le}
+use borrow.Author.Tests.{lt-ltb, le-ltb, ltb-true}
 use Rattle.writer.specs.Lent.{Lent, lent, put, putText}
 
 -- no byte more or less
@@ -82,3 +83,24 @@ pub filled : (b t : List ℕ) → length t ≤ length b → putText (lent b 0) t
 filled b t h =
     let a : 0 + length t ≡ length t = omega arith in
     placed b 0 t (omega arith) ∙ rw (a) (ap (λ (l : List ℕ). lent l (length t)) (sets-eq t b 0 (omega arith) ∙ rw a))
+
+-- EVERY TEXT from the first place on: as much of it as there is room for
+full : (o : Lent) (t : List ℕ) → length (o .bytes) ≤ o .at → putText o t ≡ o
+unfolding putText put
+full o [] h = refl
+full o (b ∷ t) h = rw (le-ltb (o .at) (length (o .bytes)) h) (full o t h)
+
+pub cut-off : (b t : List ℕ) → putText (lent b 0) t ≡ lent (take (length b) t ++ drop (length t) b) (length (take (length b) t))
+cut-off b t = go (decLe (length t) (length b))
+  where
+    go : Dec (length t ≤ length b) → putText (lent b 0) t ≡ lent (take (length b) t ++ drop (length t) b) (length (take (length b) t))
+    go (yes h) = rw (take-all (length b) t h) (filled b t h)
+    go (no h) =
+        let s = take (length b) t in
+        let n : length s ≡ length b = length-take-le (length b) t (omega arith) in
+        let e : drop (length s) b ≡ drop (length t) b
+        = drop-of-length-le b {i = length s} (omega (arith, n)) ∙ sym (drop-of-length-le b {i = length t} (omega arith)) in
+        let p : putText (lent b 0) s ≡ lent (s ++ drop (length t) b) (length s)
+        = filled b s (omega (arith, n)) ∙ ap (λ (r : List ℕ). lent (s ++ r) (length s)) e in
+        ap (putText (lent b 0)) (sym (take-append-drop (length b) t)) ∙ sym (putText-append (lent b 0) s (drop (length b) t))
+        ∙ full (putText (lent b 0) s) (drop (length b) t) (omega (arith, putText-length (lent b 0) s, ap (λ (o : Lent). o .at) p)) ∙ p
