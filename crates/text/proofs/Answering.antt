@@ -3,7 +3,7 @@ use Prim.Native.Nat.{ℕ, _+_, _≤_, _<_}
 use mathlib.Core.Bool.{true}
 use mathlib.Core.List.{List, []}
 use mathlib.Core.Option.{Option}
-use mathlib.Core.Path.{_≡_, refl, ap}
+use mathlib.Core.Path.{_≡_, refl}
 use native.Mathlib.Omega.{arith}
 use lib.IntN.{ℤ}
 use lib.ListN.{length, take, drop}
@@ -16,7 +16,6 @@ use Rattle.codelist.specs.Codelist.{WellFormed}
 use Rattle.codelist.proofs.Accepted.{accepted-well-formed}
 use Rattle.engine.specs.declared.Engine.{Engine}
 use Rattle.engine.specs.declared.Loading.{Loading}
-use Rattle.engine.specs.declared.Outcome.{Outcome}
 use Rattle.engine.specs.declared.Outcome.the-variants.{Accepted, Refused}
 use Rattle.engine.specs.declared.Refusal as refusal
 use Rattle.engine.specs.declared.Refusal.{Refusal}
@@ -24,9 +23,9 @@ use Rattle.engine.specs.Engine as engine
 use Rattle.engine.specs.Engine.{emptyEngine, loadedOf}
 use Rattle.text.specs.Input.{sheetLength, sheetOf, boxOf, boxLines}
 use Rattle.text.specs.Output.{refusalText}
-use Rattle.text.specs.Answer.{answerOf, written, ratedText, loadingText}
+use Rattle.text.specs.Answer.{answerOf, ratedText, loadingText}
 
-pub too-long : (s : List ℕ) → 8192 < length s → written (refusalText (refusal.the-variants.Load TooLong)) ≡ written (answerOf s)
+pub too-long : (s : List ℕ) → 8192 < length s → refusalText (refusal.the-variants.Load TooLong) ≡ answerOf s
 unfolding answerOf
 too-long s h = simp (lt-leb (length s) 8192 h)
 
@@ -52,8 +51,8 @@ module _
     answered = simp (le-leb (length s) 8192 h, ← p, ← n, ← e)
 
     pub loaded : (xs : Option (List ℤ)) → l .outcome ≡ Accepted → xs ≡ boxLines 8 [] (drop (end + 4) s)
-        → written (ratedText (l .engine) xs) ≡ written (answerOf s)
-    loaded xs a b = ap written (rw (answered, a, b))
+        → ratedText (l .engine) xs ≡ answerOf s
+    loaded xs a b = rw (answered, a, b)
 
-    pub not-loaded : (r : Refusal) → l .outcome ≡ Refused r → written (refusalText r) ≡ written (answerOf s)
-    not-loaded r a = ap written (rw (answered, a))
+    pub not-loaded : (r : Refusal) → l .outcome ≡ Refused r → refusalText r ≡ answerOf s
+    not-loaded r a = rw (answered, a)

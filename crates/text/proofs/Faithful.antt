@@ -9,6 +9,7 @@ use Rattle.engine.specs.declared.Outcome.the-variants.{Accepted}
 use Rattle.engine.specs.declared.Rating.{Rating}
 use Rattle.engine.specs.declared.Refusal.{Refusal}
 use Rattle.engine.specs.Engine.{ratedOf}
+use Rattle.writer.specs.Texts.{refusedText}
 use Rattle.text.specs.Output.{value, depends, bent, bend, full, limitsText, refusalText}
 use Rattle.text.specs.Answer.{unlessRefused, ratingText}
 use Rattle.text.specs.Faithful.{Same, Faithful}
@@ -32,7 +33,7 @@ accepted-text : (n : ℕ) (r : Rating) → r .outcome ≡ Accepted → ratingTex
 accepted-text n r a = ap (λ (o : Outcome). unlessRefused o (limitsText n (r .limits))) a
 
 apart : (n : ℕ) (l : Limits) (r : Refusal) → limitsText n l ≡ refusalText r → ⊥
-unfolding limitsText refusalText
+unfolding limitsText refusalText refusedText
 apart n l r e = let z : _≡_ {A = ℕ} 118 114 = cc e in omega arith
 
 pub faithful : Faithful

@@ -1,15 +1,14 @@
 -- No output has more than 1,024 bytes.
-use Prim.Native.Nat.{ℕ, suc, zero, _+_, _-_, _*_, _/_, _%_, _≤_, _<_}
+use Prim.Native.Nat.{ℕ, suc, zero, _-_, _*_, _≤_, _<_}
 use mathlib.Core.Bool.{Bool, true, false, cond}
-use mathlib.Core.List.{List, [], _∷_, _++_}
+use mathlib.Core.List.{List, []}
 use mathlib.Core.Option.{Option, none, some}
 use mathlib.Core.Path.{_≡_, refl}
 use native.Mathlib.Omega.{arith}
-use lib.Dec.{ltb, leb}
+use lib.Dec.{leb}
 use lib.IntN.{ℤ, pos, negsuc}
 use lib.ListN.{length, take, replicate, length-append}
 use lib.Seq.{take-all, take-at}
-use Rattle.codelist.specs.Text.{decimal}
 use Rattle.codelist.specs.declared.Refusal.the-variants.{TooLong}
 use Rattle.range.specs.declared.Range.{Range}
 use Rattle.range.specs.Sums.{has, at}
@@ -21,25 +20,12 @@ use Rattle.engine.specs.declared.Outcome.the-variants.{Accepted, Refused}
 use Rattle.engine.specs.declared.Refusal.{Refusal}
 use Rattle.engine.specs.declared.Refusal.the-variants.{Load}
 use Rattle.engine.specs.Engine.{numberOf, placeOf, emptyEngine, loadedOf, ratedOf}
+use Rattle.writer.specs.Texts.{refusedText}
+use Rattle.writer.proofs.Digits.{decimal-digit, decimal-length}
 use Rattle.text.specs.Input.{sheetLength, sheetOf, boxOf, boxLines}
 use Rattle.text.specs.Output.{naturalField, wholeField, rangeFields, slopeLines, memberFields, setFields, limitsText, refusalText}
 use Rattle.text.specs.Answer.{answerOf, written, unlessRefused, ratedText, loadingText}
-use Rattle.text.proofs.Digits.{decimal-digit}
 use Rattle.text.proofs.Answering.{few-factors}
-
-decimal-length : (k m : ℕ) → length (decimal k m) ≤ suc k
-unfolding decimal
-decimal-length zero m = omega arith
-decimal-length (suc k) m = go (ltb m 10) (decimal-length k (m / 10))
-  where
-    go : (b : Bool) → length (decimal k (m / 10)) ≤ suc k
-        → length (cond b ((48 + m) ∷ []) (decimal k (m / 10) ++ ((48 + m % 10) ∷ []))) ≤ suc (suc k)
-    go true h = omega arith
-    go false h = simp length-append (omega arith)
-
-natural-length : (m : ℕ) → length (naturalField m) ≤ 21
-unfolding naturalField
-natural-length m = omega (arith, decimal-length 19 m)
 
 digit-length : (m : ℕ) → m < 10 → length (naturalField m) ≡ 2
 unfolding naturalField
@@ -88,8 +74,8 @@ limits-length n l h =
     ))
 
 refusal-length : (r : Refusal) → length (refusalText r) ≤ 1024
-unfolding refusalText
-refusal-length r = simp length-append (omega (arith, natural-length (numberOf r), natural-length (placeOf r)))
+unfolding refusalText refusedText
+refusal-length r = simp length-append (omega (arith, decimal-length 19 (numberOf r), decimal-length 19 (placeOf r)))
 
 unless-length : (o : Outcome) (t : List ℕ) → (o ≡ Accepted → length t ≤ 1024) → length (unlessRefused o t) ≤ 1024
 unless-length Accepted t h = h refl

@@ -1,9 +1,7 @@
 pub mod Writing
-pub mod Digits
 pub mod Splitting
 pub mod Reading
 pub mod Members
-pub mod Fields
 pub mod Answering
 pub mod Lengths
 pub mod Parsing

@@ -1,41 +1,32 @@
 -- A printed text in its pieces: two that are equal have equal pieces.
-use Prim.Native.Nat.{ℕ, suc, zero, _+_, _^_, _≤_, _<_}
+use Prim.Native.Nat.{ℕ, suc, zero, _+_, _≤_, _<_}
 use mathlib.Core.Bool.{Bool, true, false, cond, _||_}
 use mathlib.Core.List.{List, [], _∷_, _++_, append-assoc, append-cancel-left}
 use mathlib.Core.Path.{_≡_, refl, sym, ap, _∙_}
 use native.Mathlib.Decide.{decLt, ℕ-discrete}
-use native.Mathlib.Nat.{add-suc, lt-of-lt-of-le, pow-le-pow-right}
 use native.Mathlib.Omega.{arith}
-use lib.Dec.{eqb, ltb, lit<}
+use lib.Dec.{eqb, ltb}
 use lib.IntN.{ℤ, pos, negsuc, natAbs}
 use borrow.Author.Tests.{lt-ltb, le-ltb, eq-eqb, ne-eqb}
 use Rattle.codelist.specs.Load.{valueOf}
 use Rattle.codelist.specs.Read.{good, numeral, peek, digit}
-use Rattle.codelist.specs.Text.{decimal, numeralText}
+use Rattle.codelist.specs.Text.{numeralText}
 use Rattle.codelist.specs.Write.{numeralOf}
 use Rattle.codelist.proofs.Checks.{value-numeral, constant-numeral}
-use Rattle.codelist.proofs.NumeralTexts.{decimal-room, numeral-complete}
+use Rattle.codelist.proofs.NumeralTexts.{numeral-complete}
 use Rattle.range.specs.declared.Range.{Range}
 use Rattle.range.specs.Limit.{isValid}
 use Rattle.range.specs.Sums.{has, at}
 use Rattle.range.proofs.Fitting.{low-within, high-within}
+use Rattle.writer.proofs.Digits.{decimal-digit}
+use Rattle.writer.proofs.Signs as writer
 use Rattle.text.specs.Output.{slope, naturalField, wholeField, rangeFields, slopeLines, memberFields, setFields}
-use Rattle.text.proofs.Digits.{decimal-digit}
+use Rattle.text.proofs.Writing.{whole-field}
 
 -- ════ numbers ════
 
--- room for more digits changes nothing
-wide : (j m : ℕ) → m < 10 ^ 10 → decimal (9 + j) m ≡ decimal 9 m
-wide zero m h = refl
-wide (suc j) m h = rw (add-suc 9 j) (decimal-room (9 + j) m (lt-of-lt-of-le h more) ∙ wide j m h)
-  where
-    more : 10 ^ 10 ≤ 10 ^ suc (9 + j)
-    more = pow-le-pow-right {n = 10} (lit< tt) {i = 10} {j = suc (9 + j)} (omega arith)
-
 whole-numeral : (x : ℤ) → natAbs x ≤ 2000000000 → wholeField x ≡ 9 ∷ numeralText (numeralOf x)
-unfolding wholeField numeralText numeralOf
-whole-numeral (pos m) h = ap (λ (l : List ℕ). 9 ∷ l) (wide 10 m (omega arith))
-whole-numeral (negsuc m) h = ap (λ (l : List ℕ). 9 ∷ 45 ∷ l) (wide 10 (suc m) (omega arith))
+whole-numeral x h = sym (whole-field x) ∙ ap (λ (l : List ℕ). 9 ∷ l) (writer.whole-numeral x (omega arith))
 
 -- the next byte is no digit
 abbrev Stops : List ℕ → Type 0

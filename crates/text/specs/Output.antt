@@ -9,6 +9,7 @@ use Rattle.range.specs.Sums.{has, at}
 use Rattle.rules.specs.declared.Limits.{Limits}
 use Rattle.engine.specs.declared.Refusal.{Refusal}
 use Rattle.engine.specs.Engine.{numberOf, placeOf}
+use Rattle.writer.specs.Texts.{refusedText}
 
 -- ════ the words ════
 
@@ -29,9 +30,6 @@ bend = 98 ∷ 101 ∷ 110 ∷ 100 ∷ []
 
 abbrev pub full : List ℕ
 full = 102 ∷ 117 ∷ 108 ∷ 108 ∷ []
-
-abbrev pub refused : List ℕ
-refused = 114 ∷ 101 ∷ 102 ∷ 117 ∷ 115 ∷ 101 ∷ 100 ∷ []
 
 -- ════ fields: a tab, and a number in decimal, with a minus sign (byte 45) where it is negative ════
 
@@ -69,6 +67,6 @@ limitsText n l =
     ++ ((depends ++ setFields (l .support)) ++ ((bent ++ setFields (l .nonlinear))
     ++ ((bend ++ rangeFields (l .spectrum)) ++ (full ++ rangeFields (l .full))))))
 
--- THE TEXT OF A REFUSAL: "A refusal prints `refused→number→place`."
+-- THE TEXT OF A REFUSAL: the writer's, of the refusal's number and place
 unfoldable pub refusalText : Refusal → List ℕ
-refusalText r = refused ++ (naturalField (numberOf r) ++ (naturalField (placeOf r) ++ (10 ∷ [])))
+refusalText r = refusedText (numberOf r) (placeOf r)

@@ -1,17 +1,17 @@
-// The text side of the program `rate`: where the sheet ends, the box lines, and what is printed.
+// The text side of the program `rate`: where the sheet ends, the box lines, and what is printed. What is printed is put into lent bytes, piece
+// after piece: each function gives the place after what it put.
 ghost use mathlib.Core.Path.{_≡_};
 ghost use mathlib.Core.Bool.{true};
 ghost use mathlib.Core.List.{[], _++_};
 ghost use Prim.Native.Nat.{_+_, _≤_, _<_, _^_};
-ghost use lib.IntN.{natAbs};
 ghost use lib.ListN.{length, drop};
 ghost use Rattle.codelist.specs.Load.{valueOf};
-ghost use Rattle.codelist.specs.Text.{decimal};
 ghost use Rattle.engine.specs.Engine.{ratedOf};
+ghost use Rattle.writer.specs.Lent.{lent, putText};
 ghost use Rattle.text.specs.Input.{isBox, sheetLength, boxLines};
 ghost use Rattle.text.specs.Output.{slope, naturalField, wholeField, rangeFields, slopeLines, setFields, limitsText, refusalText};
 ghost use Rattle.text.specs.Answer.{answerOf, written, ratingText, ratedText};
-ghost use Rattle.text.specs.Writer.{put, append, numbersOf};
+ghost use Rattle.text.specs.Boxes.{numbersOf};
 use codelist::Numeral;
 use codelist::PairRead;
 use engine::Engine;
@@ -21,18 +21,12 @@ use engine::Refusal;
 use range::Range;
 use rules::Limits;
 
-// The most bytes of input, and of output.
+// The most bytes of input.
 const MOST_INPUT: usize = 8192;
-
-const MOST_OUTPUT: usize = 1024;
 
 const TAB: u8 = 9;
 
 const LINE_END: u8 = 10;
-
-const MINUS: u8 = 45;
-
-const ZERO: u8 = 48;
 
 // A text: the first `len` bytes; every further one is 0.
 pub struct Text {
@@ -40,172 +34,101 @@ pub struct Text {
     pub len: usize,
 }
 
-impl Text {
-    fn empty() -> Text
-        ensures { λ r. ⌜ r ≡ written [] ⌝ }
-    {
-        Text {
-            bytes: [0u8; 1024],
-            len: 0,
-        }
-    }
-
-    // One byte more. A full text stays as it is, which no output makes it.
-    fn put(self, byte: u8) -> Text
-        ensures { λ r. ⌜ r ≡ put self byte ⌝ }
-    {
-        let mut bytes = self.bytes;
-        let len = self.len;
-        if len < MOST_OUTPUT {
-            bytes[len] = byte;
-            return Text {
-                bytes: bytes,
-                len: len + 1,
-            };
-        }
-        self
-    }
-
-    fn word(self, w: &[u8]) -> Text
-        ensures { λ r. ⌜ r ≡ append self (now (w .entry)) ⌝ }
-    {
-        let mut out = self;
-        let mut i = 0;
-        while i < w.len() {
-            out = out.put(w[i]);
-            i += 1;
-        }
-        out
-    }
-
-    // A number in decimal: its digits are found from the last one on.
-    fn decimal(self, number: u64) -> Text
-        ensures { λ r. ⌜ r ≡ append self (decimal 19 number) ⌝ }
-    {
-        let mut digits = [0u8; 20];
-        let mut at: usize = 19;
-        let mut left = number;
-        while 10 <= left {
-            digits[at] = digit(left % 10);
-            left = left / 10;
-            at -= 1;
-        }
-        digits[at] = digit(left);
-        self.word(&digits[at..])
-    }
-
-    fn natural(self, number: u64) -> Text
-        ensures { λ r. ⌜ r ≡ append self (naturalField number) ⌝ }
-    {
-        self.put(TAB).decimal(number)
-    }
-
-    fn whole(self, x: i64) -> Text
-        ensures { λ r. ⌜ r ≡ append self (wholeField x) ⌝ }
-    {
-        if x < 0 {
-            self.put(TAB).put(MINUS).decimal(magnitude(x))
-        } else {
-            self.put(TAB).decimal(magnitude(x))
-        }
-    }
-
-    fn range(self, r: Range) -> Text
-        ensures { λ t. ⌜ t ≡ append self (rangeFields r) ⌝ }
-    {
-        self.whole(r.low).whole(r.high).put(LINE_END)
-    }
-
-    // The slopes of the first n factors.
-    fn slopes(self, n: u8, gradient: [Range; 8]) -> Text
-        requires { ⌜ n ≤ 8 ⌝ }
-        ensures { λ r. ⌜ r ≡ append self (slopeLines n gradient) ⌝ }
-    {
-        let mut out = self;
-        let mut a: u8 = 0;
-        while a < n {
-            out = out.slope(a, gradient[a as usize]);
-            a += 1;
-        }
-        out
-    }
-
-    // The slope of the factor a, counted from 0.
-    fn slope(self, a: u8, r: Range) -> Text
-        requires { ⌜ a < 8 ⌝ }
-        ensures { λ t. ⌜ t ≡ append self (slope ++ (naturalField (a + 1) ++ rangeFields r)) ⌝ }
-    {
-        self.word(b"slope").natural(a as u64 + 1).range(r)
-    }
-
-    // The factors of a set, rising.
-    fn set(self, set: u8) -> Text
-        ensures { λ r. ⌜ r ≡ append self (setFields set) ⌝ }
-    {
-        let mut out = self;
-        let mut rest = set;
-        let mut a: u64 = 0;
-        while a < 8 {
-            if rest % 2 == 1 {
-                out = out.natural(a + 1);
-            }
-            rest = rest / 2;
-            a += 1;
-        }
-        out.put(LINE_END)
-    }
+// A tab and a number.
+fn natural_field(bytes: &mut [u8], at: usize, number: u64) -> usize
+    ensures { λ r. ⌜ lent (now (bytes .exit)) r ≡ putText (lent (now (bytes .entry)) at) (naturalField number) ⌝ }
+{
+    let parted = writer::byte(bytes, at, TAB);
+    writer::natural(bytes, parted, number)
 }
 
-// |x|. −1 − x of a negative x fits where −x may not.
-fn magnitude(x: i64) -> u64
-    ensures { λ r. ⌜ r ≡ natAbs x ⌝ }
+// A tab and a number with its sign.
+fn whole_field(bytes: &mut [u8], at: usize, x: i64) -> usize
+    ensures { λ r. ⌜ lent (now (bytes .exit)) r ≡ putText (lent (now (bytes .entry)) at) (wholeField x) ⌝ }
 {
-    if x < 0 { (-1 - x) as u64 + 1 } else { x as u64 }
+    let parted = writer::byte(bytes, at, TAB);
+    writer::whole(bytes, parted, x)
 }
 
-// The byte of a digit.
-fn digit(d: u64) -> u8
-    requires { ⌜ d < 10 ⌝ }
-    ensures { λ r. ⌜ r ≡ 48 + d ⌝ }
+// The low and the high of a range, and the line's end.
+fn range_fields(bytes: &mut [u8], at: usize, x: Range) -> usize
+    ensures { λ r. ⌜ lent (now (bytes .exit)) r ≡ putText (lent (now (bytes .entry)) at) (rangeFields x) ⌝ }
 {
-    ZERO + d as u8
+    let low = whole_field(bytes, at, x.low);
+    let high = whole_field(bytes, low, x.high);
+    writer::byte(bytes, high, LINE_END)
+}
+
+// The slope of the factor a, counted from 0.
+fn slope_line(bytes: &mut [u8], at: usize, a: u8, x: Range) -> usize
+    requires { ⌜ a < 8 ⌝ }
+    ensures { λ r. ⌜ lent (now (bytes .exit)) r ≡ putText (lent (now (bytes .entry)) at) (slope ++ (naturalField (a + 1) ++ rangeFields x)) ⌝ }
+{
+    let begun = writer::word(bytes, at, b"slope");
+    let numbered = natural_field(bytes, begun, a as u64 + 1);
+    range_fields(bytes, numbered, x)
+}
+
+// The slopes of the first n factors.
+fn slope_lines(bytes: &mut [u8], at: usize, n: u8, gradient: [Range; 8]) -> usize
+    requires { ⌜ n ≤ 8 ⌝ }
+    ensures { λ r. ⌜ lent (now (bytes .exit)) r ≡ putText (lent (now (bytes .entry)) at) (slopeLines n gradient) ⌝ }
+{
+    let mut to = at;
+    let mut a: u8 = 0;
+    while a < n {
+        to = slope_line(bytes, to, a, gradient[a as usize]);
+        a += 1;
+    }
+    to
+}
+
+// The factors of a set, rising, and the line's end.
+fn set_fields(bytes: &mut [u8], at: usize, set: u8) -> usize
+    ensures { λ r. ⌜ lent (now (bytes .exit)) r ≡ putText (lent (now (bytes .entry)) at) (setFields set) ⌝ }
+{
+    let mut to = at;
+    let mut rest = set;
+    let mut a: u64 = 0;
+    while a < 8 {
+        if rest % 2 == 1 {
+            to = natural_field(bytes, to, a + 1);
+        }
+        rest = rest / 2;
+        a += 1;
+    }
+    writer::byte(bytes, to, LINE_END)
 }
 
 // The text of a result for n factors.
-fn limits(n: u8, l: Limits) -> Text
+fn limits(bytes: &mut [u8], at: usize, n: u8, l: Limits) -> usize
     requires { ⌜ n ≤ 8 ⌝ }
-    ensures { λ r. ⌜ r ≡ written (limitsText n l) ⌝ }
+    ensures { λ r. ⌜ lent (now (bytes .exit)) r ≡ putText (lent (now (bytes .entry)) at) (limitsText n l) ⌝ }
 {
     let value = l.value;
     let gradient = l.gradient;
     let spectrum = l.spectrum;
     let full = l.full;
-    let first = Text::empty()
-        .word(b"value")
-        .range(value)
-        .slopes(n, gradient);
-    let sets = first
-        .word(b"depends")
-        .set(l.support)
-        .word(b"bent")
-        .set(l.nonlinear);
-    sets.word(b"bend").range(spectrum).word(b"full").range(full)
+    let mut to = writer::word(bytes, at, b"value");
+    to = range_fields(bytes, to, value);
+    to = slope_lines(bytes, to, n, gradient);
+    to = writer::word(bytes, to, b"depends");
+    to = set_fields(bytes, to, l.support);
+    to = writer::word(bytes, to, b"bent");
+    to = set_fields(bytes, to, l.nonlinear);
+    to = writer::word(bytes, to, b"bend");
+    to = range_fields(bytes, to, spectrum);
+    to = writer::word(bytes, to, b"full");
+    range_fields(bytes, to, full)
 }
 
 // The text of a refusal.
-fn refusal(r: Refusal) -> Text
-    ensures { λ t. ⌜ t ≡ written (refusalText r) ⌝ }
+fn refusal(bytes: &mut [u8], at: usize, why: Refusal) -> usize
+    ensures { λ r. ⌜ lent (now (bytes .exit)) r ≡ putText (lent (now (bytes .entry)) at) (refusalText why) ⌝ }
 {
-    let number = wide(r.number());
-    let place = r.place();
-    let word = Text::empty().word(b"refused");
-    word.natural(number).natural(place).put(LINE_END)
-}
-
-fn wide(x: u8) -> u64
-    ensures { λ r. ⌜ r ≡ x ⌝ }
-{
-    x as u64
+    let number = why.number() as u64;
+    let place = why.place();
+    writer::refusal(bytes, at, number, place)
 }
 
 // Whether the line `box` stands at a place.
@@ -305,32 +228,49 @@ fn rated(engine: Engine, ranges: &[i64], times: u64) -> Rating
 }
 
 // The text of a rating for n factors.
-fn rating(n: u8, r: Rating) -> Text
+fn rating(bytes: &mut [u8], at: usize, n: u8, x: Rating) -> usize
     requires { ⌜ n ≤ 8 ⌝ }
-    ensures { λ t. ⌜ t ≡ written (ratingText n r) ⌝ }
+    ensures { λ r. ⌜ lent (now (bytes .exit)) r ≡ putText (lent (now (bytes .entry)) at) (ratingText n x) ⌝ }
 {
-    let outcome = r.outcome;
-    let l = r.limits;
+    let outcome = x.outcome;
+    let l = x.limits;
     match outcome {
-        Outcome::Accepted => limits(n, l),
-        Outcome::Refused(why) => refusal(why),
+        Outcome::Accepted => limits(bytes, at, n, l),
+        Outcome::Refused(why) => refusal(bytes, at, why),
     }
 }
 
 // The text of the ratings of the box lines.
-fn ratings(engine: Engine, boxes: Boxes, times: u64) -> Text
+fn ratings(bytes: &mut [u8], at: usize, engine: Engine, boxes: Boxes, times: u64) -> usize
     requires { ⌜ engine .codelist .factors ≤ 8 ⌝ }
     requires { ⌜ boxes .count ≤ 16 ⌝ }
-    ensures { λ t. ⌜ t ≡ written (ratedText engine (numbersOf boxes)) ⌝ }
+    ensures { λ r. ⌜ lent (now (bytes .exit)) r ≡ putText (lent (now (bytes .entry)) at) (ratedText engine (numbersOf boxes)) ⌝ }
 {
     if !boxes.good {
-        return refusal(Refusal::Rate(rules::Refusal::RangeCount));
+        return refusal(bytes, at, Refusal::Rate(rules::Refusal::RangeCount));
     }
     let c = engine.codelist;
     let n = c.factors;
     let ends = boxes.ends;
     let count = boxes.count;
-    rating(n, rated(engine, &ends[..count], times))
+    rating(bytes, at, n, rated(engine, &ends[..count], times))
+}
+
+// The whole output.
+fn output(bytes: &mut [u8], at: usize, input: &[u8], times: u64) -> usize
+    ensures { λ r. ⌜ lent (now (bytes .exit)) r ≡ putText (lent (now (bytes .entry)) at) (answerOf (now (input .entry))) ⌝ }
+{
+    if MOST_INPUT < input.len() {
+        return refusal(bytes, at, Refusal::Load(codelist::Refusal::TooLong));
+    }
+    let end = sheet_end(input);
+    let loading = Engine::new().load(&input[..end]);
+    let outcome = loading.outcome;
+    let engine = loading.engine;
+    match outcome {
+        Outcome::Accepted => ratings(bytes, at, engine, box_lines(input, end + 4), times),
+        Outcome::Refused(why) => refusal(bytes, at, why),
+    }
 }
 
 // What the program prints for its input.
@@ -344,15 +284,10 @@ pub fn answer(input: &[u8]) -> Text
 pub fn answer_after(input: &[u8], times: u64) -> Text
     ensures { λ r. ⌜ r ≡ written (answerOf (now (input .entry))) ⌝ }
 {
-    if MOST_INPUT < input.len() {
-        return refusal(Refusal::Load(codelist::Refusal::TooLong));
-    }
-    let end = sheet_end(input);
-    let loading = Engine::new().load(&input[..end]);
-    let outcome = loading.outcome;
-    let engine = loading.engine;
-    match outcome {
-        Outcome::Accepted => ratings(engine, box_lines(input, end + 4), times),
-        Outcome::Refused(why) => refusal(why),
+    let mut bytes = [0u8; 1024];
+    let len = output(&mut bytes, 0, input, times);
+    Text {
+        bytes: bytes,
+        len: len,
     }
 }

@@ -2,22 +2,29 @@
 use borrow.Author.Needs.{needs}
 use mathlib.Core.Path.{ap, sym, _∙_}
 use Rattle.engine.specs.declared.Outcome.{Outcome}
+use Rattle.writer.specs.Lent.{lent, putText}
 use Rattle.text.specs.Output.{limitsText}
-use Rattle.text.specs.Answer.{unlessRefused, written}
+use Rattle.text.specs.Answer.{unlessRefused}
 use Rattle.text.proofs.rating.Statement.{statement}
 use Rattle.text.proofs.rating.Tie as tie
 
 returns : tie.Need-returns
 returns c =
-    let a = c .before .before .before .before .args in
-    c .limits .ensures
-    ∙ ap (λ (o : Outcome). written (unlessRefused o (limitsText (a .n) (a .r .limits)))) (sym (c .before .enum-told .given .1))
+    let r = c .before .before in
+    let told = r .before .before in
+    let a = told .before .before .before .before .args in
+    r .limits .ensures
+    ∙ ap (λ (o : Outcome). putText (lent (a .bytes .now) (a .at)) (unlessRefused o (limitsText (a .n) (a .x .limits))))
+    (sym (told .enum-told .given .1))
 
 returns-2 : tie.Need-returns-2
 returns-2 c =
-    let o = c .before .before in
-    let a = o .before .before .before .args in
-    c .refusal .ensures ∙ ap (λ (x : Outcome). written (unlessRefused x (limitsText (a .n) (a .r .limits)))) (sym (o .outcome .given .1))
+    let r = c .before .before in
+    let told = r .before .before .before in
+    let a = told .before .before .before .before .args in
+    r .refusal .ensures
+    ∙ ap (λ (o : Outcome). putText (lent (a .bytes .now) (a .at)) (unlessRefused o (limitsText (a .n) (a .x .limits))))
+    (sym (told .outcome .given .1))
 
 pub rating-spec : {M : Type 1} → statement M
 rating-spec =
@@ -27,5 +34,7 @@ rating-spec =
     (λ c κs. search needs)
     (λ c. search needs)
     (λ c κs. search needs)
+    (λ c. search needs)
     returns
+    (λ c. search needs)
     returns-2)
