@@ -95,7 +95,7 @@ pub fn answer(sheet: &[u8]) -> Output
             len: len,
         },
         Outcome::Refused(why) => {
-            let number = writing::wide(why.number());
+            let number = why.number() as u64;
             let place = why.place();
             let len = writer::refusal(&mut bytes, 0, number, place);
             Output {

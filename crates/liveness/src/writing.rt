@@ -13,7 +13,7 @@ use codelist::Codelist;
 use codelist::Op;
 
 // A byte as a number.
-pub(crate) fn wide(x: u8) -> u64
+fn wide(x: u8) -> u64
     ensures { λ r. ⌜ r ≡ x ⌝ }
     ensures { λ r. ⌜ r < 256 ⌝ }
 {

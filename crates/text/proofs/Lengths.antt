@@ -10,6 +10,7 @@ use lib.IntN.{ℤ, pos, negsuc}
 use lib.ListN.{length, take, replicate, length-append}
 use lib.Seq.{take-all, take-at}
 use Rattle.codelist.specs.declared.Refusal.the-variants.{TooLong}
+use Rattle.codelist.proofs.Lengths.{decimal-length}
 use Rattle.range.specs.declared.Range.{Range}
 use Rattle.range.specs.Sums.{has, at}
 use Rattle.rules.specs.declared.Limits.{Limits}
@@ -20,8 +21,8 @@ use Rattle.engine.specs.declared.Outcome.the-variants.{Accepted, Refused}
 use Rattle.engine.specs.declared.Refusal.{Refusal}
 use Rattle.engine.specs.declared.Refusal.the-variants.{Load}
 use Rattle.engine.specs.Engine.{numberOf, placeOf, emptyEngine, loadedOf, ratedOf}
-use Rattle.writer.specs.Texts.{refusedText}
-use Rattle.writer.proofs.Digits.{decimal-digit, decimal-length}
+use Rattle.writer.proofs.Digits.{decimal-digit}
+use Rattle.writer.proofs.Lengths.{refused-length}
 use Rattle.text.specs.Input.{sheetLength, sheetOf, boxOf, boxLines}
 use Rattle.text.specs.Output.{naturalField, wholeField, rangeFields, slopeLines, memberFields, setFields, limitsText, refusalText}
 use Rattle.text.specs.Answer.{answerOf, written, unlessRefused, ratedText, loadingText}
@@ -74,8 +75,8 @@ limits-length n l h =
     ))
 
 refusal-length : (r : Refusal) → length (refusalText r) ≤ 1024
-unfolding refusalText refusedText
-refusal-length r = simp length-append (omega (arith, decimal-length 19 (numberOf r), decimal-length 19 (placeOf r)))
+unfolding refusalText
+refusal-length r = omega (arith, refused-length (numberOf r) (placeOf r))
 
 unless-length : (o : Outcome) (t : List ℕ) → (o ≡ Accepted → length t ≤ 1024) → length (unlessRefused o t) ≤ 1024
 unless-length Accepted t h = h refl

@@ -1,13 +1,12 @@
 -- The digits of a number, found from the last one on, in an array of twenty.
 use Prim.Native.Nat.{ℕ, suc, zero, _+_, _-_, _/_, _%_, _^_, _≤_, _<_}
-use mathlib.Core.Bool.{Bool, true, false, cond}
 use mathlib.Core.List.{List, [], _∷_, _++_, append-assoc, append-nil}
 use mathlib.Core.Path.{_≡_, refl, sym, ap, ap₂, _∙_}
 use native.Mathlib.Nat.{add-suc, lt-of-lt-of-le, pow-le-pow-right, pow-succ'}
 use native.Mathlib.Numerals.{sub-one}
 use native.Mathlib.Omega.{arith}
-use lib.Dec.{ltb, lit<}
-use lib.ListN.{length, take, drop, set, replicate, length-set, length-drop, length-append}
+use lib.Dec.{lit<}
+use lib.ListN.{length, take, drop, set, replicate, length-set, length-drop}
 use lib.Seq.{take-all, drop-cons, drop-set-lt, getD-set-same, lt-length-set}
 use borrow.Author.Tests.{lt-ltb, le-ltb}
 use Rattle.codelist.specs.Text.{decimal}
@@ -34,17 +33,6 @@ decimal-more-room k (suc j) m h = rw (add-suc k j) (decimal-room (k + j) m (lt-o
 
 pub decimal-few : (m : ℕ) → m < 10 ^ 10 → decimal 19 m ≡ decimal 9 m
 decimal-few m h = decimal-more-room 9 10 m h
-
--- It has at most as many bytes as there is room for
-pub decimal-length : (k m : ℕ) → length (decimal k m) ≤ suc k
-unfolding decimal
-decimal-length zero m = omega arith
-decimal-length (suc k) m = go (ltb m 10) (decimal-length k (m / 10))
-  where
-    go : (b : Bool) → length (decimal k (m / 10)) ≤ suc k
-        → length (cond b ((48 + m) ∷ []) (decimal k (m / 10) ++ ((48 + m % 10) ∷ []))) ≤ suc (suc k)
-    go true h = omega arith
-    go false h = simp length-append (omega arith)
 
 drop-set : (l : List ℕ) (i a : ℕ) → i < length l → drop i (set l i a) ≡ a ∷ drop (suc i) l
 drop-set l i a h =

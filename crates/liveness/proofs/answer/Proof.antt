@@ -20,14 +20,13 @@ returns-2 : tie.Need-returns-2
 returns-2 c =
     let r = c .before in
     let p = r .before .before in
-    let w = p .before in
-    let n = w .before in
+    let n = p .before in
     let y = n .before .before in
     let t = y .before .before .before in
     let s = t .before .before .before .args .sheet .now in
     prints-refusal s (replicate 4096 0) _ refl (t .tidy .ensures .1) _ (t .tidy .ensures .0) _ _ (y .why .given .1)
     (r .refusal .ensures
-    ∙ ap₂ (λ (a b : ℕ). putText (lent (t .tidy .last .1 .0) 0) (refusedText a b)) (w .wide .ensures .0 ∙ n .number .ensures) (p .place .ensures))
+    ∙ ap₂ (λ (a b : ℕ). putText (lent (t .tidy .last .1 .0) 0) (refusedText a b)) (n .number .ensures) (p .place .ensures))
 
 pub answer-spec : {M : Type 1} → statement M
 answer-spec =
@@ -38,7 +37,7 @@ answer-spec =
     (λ c. search needs)
     (λ c. search needs)
     (λ c κs. search needs)
-    (λ c κs. search needs)
+    (λ c. search needs)
     (λ c κs. search needs)
     (λ c. search needs)
     (λ c κs. search needs)
