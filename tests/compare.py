@@ -1,36 +1,38 @@
 #!/usr/bin/env python3
-"""Compares the program `rate` with the rules of paper 01 over unlimited whole numbers and exact fractions (tests/reference).
+"""Compares the programs `rate` and `tidy` with the papers' rules over unlimited whole numbers and exact fractions (tests/reference).
 
-tests/compare.py --binary PATH [--seed N] [--count N]
-    the figures of 01, the examples, inputs that two refusals fit, and random ones: every printed byte; for a share of the accepted random
-    ones also the exact premium and its derivatives, as fractions, at a point inside the ranges
-tests/compare.py --self-test VECTORS
+tests/compare.py --binary PATH [--tidy PATH] [--seed N] [--count N] [--dead-lines N]
+    `rate`: the figures of 01, the examples, inputs that two refusals fit, and random ones: every printed byte; for a share of the accepted
+    random ones also the exact premium and its derivatives, as fractions, at a point inside the ranges
+    `tidy`: the sheets of all these, and sheets with dead lines put in (dead_lines.py): every printed byte, and `rate` of the tidied sheet
+tests/compare.py --self-test VECTORS [--program tidy]
     the reference alone against a file of vectors, one JSON object a line with "input" (hex) and "expected"
 
 Fails, too, where a rule, a refusal, a wrong rule of errors.py or an order of two refusals (orders.py) was never met. The same seed gives the
-same inputs.
+same inputs. The closing line counts each input once for each program.
 """
 import argparse
 import json
 import random
-import subprocess
 import sys
-from collections import Counter
 from pathlib import Path
 
+import dead_lines
 from errors import ERRORS, STEPS, uncounted
-from figures import FIGURES
-from generate import case
+from figures import FIGURES, TIDIED
+from generate import box_text, case
 from orders import ORDERS, cases, orders_of
 from reference.exact import TooLarge, broken_promises
 from reference.outcome import Refusal
-from reference.ranges import Range
+from reference.ranges import UNIT, Range
 from reference.rating import Result
+from reference.sheet import load
 from reference.text import printed, run
+from reference.tidy import tidy_printed
+from tally import DIFFERENCES_SHOWN, Tally, difference
+from tidying import TidyComparison
 
 EXAMPLES = Path(__file__).resolve().parent.parent / "examples"
-DIFFERENCES_SHOWN = 5
-TIMES_CAUGHT = 3  # a wrong rule is no longer tried once it was told from the right one this often
 EXACT_SHARE = 0.5
 ORDER_ROUNDS = 3  # inputs for each order
 
@@ -67,34 +69,32 @@ RULES = [
 ]
 
 
-class Comparison:
+class Comparison(Tally):
+    rules = RULES + ORDERS
+    errors = ERRORS
+
     def __init__(self, binary):
+        super().__init__()
         self.binary = binary
-        self.met = Counter()
-        self.caught = Counter()
         self.passing = []
-        self.passed = self.failed = self.given_up = 0
+        self.given_up = 0
 
     def note(self, rule):
         """A rule was met; the step that gave a refusal 12 is kept to see whether it alone did."""
         if rule.startswith("12 by ") and not rule.endswith(" alone"):
             self.passing = [rule.removeprefix("12 by ")]
         else:
-            self.met[rule] += 1
-
-    def report(self, name, text, complaint):
-        if self.failed < DIFFERENCES_SHOWN:
-            print(f"{name}: input\n{text.decode('latin-1')}\n{complaint}")
+            super().note(rule)
 
     def compare(self, name, text, expected=None, rng=None):
-        """One input: the program's print against the reference's, and the reference's result against the exact side."""
+        """One input: the program's print against the reference's, and the reference's result, which is handed back, against the exact side."""
         self.passing = []
         outcome = run(text, note=self.note)
         ours = printed(outcome.answer)
         if expected is not None and ours != expected:
             complaint = f"--- figure\n{expected.decode()}--- reference\n{ours.decode()}"
         else:
-            complaint = self.difference(text, ours)
+            complaint = difference(self.binary, text, ours)
         if isinstance(outcome.answer, Result):
             self.note_result(outcome)
             if rng is not None and rng.random() < EXACT_SHARE:
@@ -102,18 +102,8 @@ class Comparison:
         else:
             complaint += self.note_orders(text, outcome.answer)
         self.try_errors(text, outcome, ours)
-        if complaint:
-            self.report(name, text, complaint)
-            self.failed += 1
-        else:
-            self.passed += 1
-
-    def difference(self, text, ours):
-        try:
-            got = subprocess.run([self.binary], input=text, stdout=subprocess.PIPE, timeout=60, close_fds=False).stdout
-        except subprocess.TimeoutExpired:
-            return "--- no answer within a minute\n"
-        return "" if got == ours else f"--- expected\n{ours.decode()}--- got\n{got.decode('latin-1')}"
+        self.judge(name, text, complaint)
+        return outcome
 
     def exact_complaint(self, outcome, rng):
         ranges = [Range(*outcome.ends[k:k + 2]) for k in range(0, len(outcome.ends), 2)]
@@ -148,35 +138,52 @@ class Comparison:
         for step in self.passing:
             if printed(run(text, uncounted(step)).answer) != ours:
                 self.note(f"12 by {step} alone")
-        for wrong in ERRORS:
-            if self.caught[wrong] < TIMES_CAUGHT and printed(run(text, wrong).answer) != ours:
-                self.caught[wrong] += 1
+        self.catch_errors(ours, lambda wrong: printed(run(text, wrong).answer))
 
     def conclude(self):
-        """Prints the rules with how often each was met, and the count; whether all is well."""
-        for rule in RULES:
-            print(f"{self.met[rule]:9}  {rule}")
+        """Prints how often each rule was met."""
+        self.show(RULES)
         for kind in dict.fromkeys(order.split(":")[0] for order in ORDERS):
             counts = [self.met[order] for order in ORDERS if order.split(":")[0] == kind]
             print(f"{min(counts):9}  {kind}: the least often met of {len(counts)}")
         print(f"{self.given_up:9}  points given up: the fractions grew too long")
-        unknown = set(self.met) - set(RULES) - set(ORDERS)
-        missed = [rule for rule in RULES + ORDERS if not self.met[rule]]
-        missed += [f"told from the right rules: {wrong.__doc__}" for wrong in ERRORS if not self.caught[wrong]]
-        missed += [f"not in the list of rules: {rule}" for rule in sorted(unknown)]
-        for rule in missed:
-            print(f"never met: {rule}")
-        print(f"{self.passed} passed, {self.failed} failed")
-        return not missed and self.failed == 0
 
 
-def self_test(path):
+def inputs(seed, count):
+    """Inputs of `rate`: a name, the bytes, the print where it is written down, and what random points are taken from."""
+    for name, text, expected in FIGURES:
+        yield f"figure '{name}'", text, expected, None
+    for example in sorted(EXAMPLES.glob("*.in")):
+        yield f"example '{example.stem}'", example.read_bytes(), example.with_suffix(".out").read_bytes(), None
+    for number in range(ORDER_ROUNDS):
+        for name, text in cases(random.Random(f"{seed}/order/{number}")):
+            yield f"'{name}', {number}", text, None, None
+    for number in range(count):
+        rng = random.Random(f"{seed}/{number}")
+        kind, text = case(rng)
+        yield f"case {number} ({kind})", text, None, rng
+
+
+def tidy_inputs(seed, count):
+    """Further ones for `tidy`: a name, the bytes with a box, and the tidied sheet where it is written down."""
+    for name, text, expected in TIDIED:
+        yield f"figure '{name}'", text, expected
+    for example in sorted(EXAMPLES.glob("*.sheet")):
+        sheet = example.read_bytes()
+        box = box_text([Range(UNIT, 2 * UNIT)] * load(sheet).factors)
+        yield f"example '{example.stem}'", sheet + box, example.with_suffix(".tidied").read_bytes()
+    for number in range(count):
+        kind, text = dead_lines.case(random.Random(f"{seed}/dead/{number}"))
+        yield f"case {number} ({kind})", text, None
+
+
+def self_test(path, print_of):
     passed = failed = 0
     with open(path) as vectors:
         for number, line in enumerate(vectors, 1):
             vector = json.loads(line)
             text = bytes.fromhex(vector["input"])
-            ours = printed(run(text).answer)
+            ours = print_of(text)
             if ours == vector["expected"].encode():
                 passed += 1
                 continue
@@ -189,28 +196,41 @@ def self_test(path):
 
 def main():
     parser = argparse.ArgumentParser(description=__doc__, formatter_class=argparse.RawDescriptionHelpFormatter)
-    parser.add_argument("--binary", help="the program to compare")
+    parser.add_argument("--binary", help="the program `rate`")
+    parser.add_argument("--tidy", help="the program `tidy`")
     parser.add_argument("--seed", type=int, default=1)
     parser.add_argument("--count", type=int, default=6000, help="random inputs, beside the figures")
+    parser.add_argument("--dead-lines", type=int, default=1500, help="random inputs with dead lines, where `tidy` is compared")
     parser.add_argument("--self-test", metavar="VECTORS")
+    parser.add_argument("--program", choices=("rate", "tidy"), default="rate", help="whose vectors they are")
     arguments = parser.parse_args()
     if arguments.self_test:
-        sys.exit(not self_test(arguments.self_test))
+        print_of = tidy_printed if arguments.program == "tidy" else lambda text: printed(run(text).answer)
+        sys.exit(not self_test(arguments.self_test, print_of))
     if not arguments.binary:
         parser.error("--binary or --self-test")
-    comparison = Comparison(Path(arguments.binary).resolve())
-    for name, text, expected in FIGURES:
-        comparison.compare(f"figure '{name}'", text, expected)
-    for example in sorted(EXAMPLES.glob("*.in")):
-        comparison.compare(f"example '{example.stem}'", example.read_bytes(), example.with_suffix(".out").read_bytes())
-    for number in range(ORDER_ROUNDS):
-        for name, text in cases(random.Random(f"{arguments.seed}/order/{number}")):
-            comparison.compare(f"'{name}', {number}", text)
-    for number in range(arguments.count):
-        rng = random.Random(f"{arguments.seed}/{number}")
-        kind, text = case(rng)
-        comparison.compare(f"case {number} ({kind})", text, rng=rng)
-    sys.exit(not comparison.conclude())
+    rating = Comparison(Path(arguments.binary).resolve())
+    tidying = TidyComparison(Path(arguments.tidy).resolve(), rating.binary) if arguments.tidy else None
+    for name, text, expected, rng in inputs(arguments.seed, arguments.count):
+        outcome = rating.compare(name, text, expected, rng)
+        if tidying:
+            tidying.compare(name, text, outcome, rng=rng)
+    if tidying:
+        for name, text, expected in tidy_inputs(arguments.seed, arguments.dead_lines):
+            tidying.compare(name, text, rating.compare(name, text), expected)
+    sys.exit(not concluded([rating, tidying] if tidying else [rating]))
+
+
+def concluded(comparisons):
+    """Prints what was met, what was not, and the count; whether all is well."""
+    for comparison in comparisons:
+        comparison.conclude()
+    missed = [rule for comparison in comparisons for rule in comparison.missed()]
+    for rule in missed:
+        print(f"never met: {rule}")
+    passed, failed = (sum(counts) for counts in zip(*((comparison.passed, comparison.failed) for comparison in comparisons)))
+    print(f"{passed} passed, {failed} failed")
+    return not missed and failed == 0
 
 
 if __name__ == "__main__":

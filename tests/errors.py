@@ -1,12 +1,17 @@
 """Wrong rules, each in the place of a right one: the comparison has to tell them all from the right ones.
 
-The first five are the errors that 01 names at its end, then come the results "From the buyer" wants turned down, then other
-readings of sentences that decide a result.
+Of rating, the first five are the errors that 01 names at its end, then come the results "From the buyer" wants turned down, then other
+readings of sentences that decide a result. Those of tidying (02, request 1) are near misses of what is used, what is kept and how it is
+renumbered.
 """
 from reference.outcome import Refused, refuse
 from reference.ranges import LIMIT, UNIT, ZERO, PastLimit, Range
 from reference.rating import Rules
+from reference.sheet import REFERENCES, Operation
+from reference.tidy import Tidying, last_line, operation_at
 
+
+# ---- rating
 
 class TowardZero(Rules):
     """Dividing toward zero, so that a low end of -0.5 units becomes 0."""
@@ -177,3 +182,139 @@ STEPS = [
 def uncounted(step):
     """The right rules but for one step, whose ends do not count."""
     return type("Uncounted", (Rules,), {"uncounted": step})
+
+
+# ---- tidying
+
+class SecondOfProductUnused(Tidying):
+    """The second reference of a product not followed."""
+    def references(self, sheet, line):
+        found = super().references(sheet, line)
+        return found[:1] if found and operation_at(sheet, line).name == "mul" else found
+
+
+class SecondOfSumUnused(Tidying):
+    """The second reference of a sum not followed."""
+    def references(self, sheet, line):
+        found = super().references(sheet, line)
+        return found[:1] if found and operation_at(sheet, line).name == "add" else found
+
+
+class ExponentUsed(Tidying):
+    """An exponent taken for a reference."""
+    def references(self, sheet, line):
+        if line > sheet.factors and operation_at(sheet, line).name == "pow":
+            return [number for number in operation_at(sheet, line).numbers if number < line]
+        return super().references(sheet, line)
+
+
+class TimesZeroUnused(Tidying):
+    """A line that is multiplied by 0 taken for unused."""
+    def references(self, sheet, line):
+        if line > sheet.factors and operation_at(sheet, line).name == "mulc" and operation_at(sheet, line).numbers[1] == 0:
+            return ()
+        return super().references(sheet, line)
+
+
+class DirectUseOnly(Tidying):
+    """Only direct use by the last line counted."""
+    def used(self, sheet):
+        last = last_line(sheet)
+        return {last, *self.references(sheet, last)}
+
+
+class TwoStepsOnly(Tidying):
+    """Use followed through one other line, and no further."""
+    def used(self, sheet):
+        found = {last_line(sheet)}
+        for _ in range(2):
+            found |= {i for line in found for i in self.references(sheet, line)}
+        return found
+
+
+class NamedAtAll(Tidying):
+    """A line dropped only where no line names it, so that a dead line keeps those it uses."""
+    def used(self, sheet):
+        return {last_line(sheet)} | {i for line in range(1, last_line(sheet) + 1) for i in self.references(sheet, line)}
+
+
+class EqualLinesMerged(Tidying):
+    """A used line dropped where an equal line precedes it."""
+    def tidied(self, sheet):
+        def first(i):
+            if i <= sheet.factors:
+                return i
+            return sheet.factors + 1 + sheet.operations.index(operation_at(sheet, i))
+
+        def merged(name, numbers):
+            count = REFERENCES[name]
+            return Operation(name, tuple(map(first, numbers[:count])) + numbers[count:])
+        return super().tidied(sheet._replace(operations=tuple(merged(*operation) for operation in sheet.operations)))
+
+
+class InversesKept(Tidying):
+    """A dead inverse kept with what it uses, since it may be refused."""
+    def used(self, sheet):
+        found = super().used(sheet)
+        for line in range(last_line(sheet), sheet.factors, -1):
+            if line in found or operation_at(sheet, line).name == "inv":
+                found |= {line, *self.references(sheet, line)}
+        return found
+
+
+class LastFactorDropped(Tidying):
+    """The last factor dropped where it is unused."""
+    def dropped(self, sheet):
+        return {sheet.factors} - self.used(sheet)
+
+    def kept(self, sheet):
+        return [line for line in super().kept(sheet) if line not in self.dropped(sheet)]
+
+    def tidied(self, sheet):
+        return super().tidied(sheet)._replace(factors=sheet.factors - len(self.dropped(sheet)))
+
+
+class UnusedFactorsDropped(LastFactorDropped):
+    """Every unused factor dropped."""
+    def dropped(self, sheet):
+        return set(range(1, sheet.factors + 1)) - self.used(sheet)
+
+
+class OldNumbers(Tidying):
+    """References left with their old numbers."""
+    def new_number(self, line, kept):
+        return line
+
+
+class SecondLeftOld(Tidying):
+    """The second reference left with its old number."""
+    def renumbered(self, operation, kept):
+        name, numbers = super().renumbered(operation, kept)
+        return Operation(name, numbers[:1] + operation.numbers[1:])
+
+
+class LessAllDropped(Tidying):
+    """A reference behind a dropped line lessened by the number of all dropped lines, not of those before it."""
+    def new_number(self, line, kept):
+        new = super().new_number(line, kept)
+        return line if new == line else line - (max(kept) - len(kept))
+
+
+class ExponentRenumbered(Tidying):
+    """An exponent renumbered as a reference is."""
+    def renumbered(self, operation, kept):
+        name, numbers = super().renumbered(operation, kept)
+        return Operation(name, tuple(self.new_number(number, kept) for number in operation.numbers) if name == "pow" else numbers)
+
+
+class ReferencesSorted(Tidying):
+    """The two references of a line written in rising order."""
+    def renumbered(self, operation, kept):
+        name, numbers = super().renumbered(operation, kept)
+        return Operation(name, tuple(sorted(numbers)) if REFERENCES[name] == 2 else numbers)
+
+
+TIDY_ERRORS = [
+    SecondOfProductUnused, SecondOfSumUnused, ExponentUsed, TimesZeroUnused, DirectUseOnly, TwoStepsOnly, NamedAtAll, EqualLinesMerged,
+    InversesKept, LastFactorDropped, UnusedFactorsDropped, OldNumbers, SecondLeftOld, LessAllDropped, ExponentRenumbered, ReferencesSorted,
+]

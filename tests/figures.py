@@ -1,4 +1,4 @@
-"""The figures and edges of paper 01 as inputs of `rate` with the whole text it must print.
+"""The figures and edges of paper 01 as inputs of `rate` with the whole text it must print; inputs whose sheets are tidied, with the tidied sheet.
 
 In both, `;` stands for byte 10 and a blank for the tab. Where 01 gives a part of a result only, the other lines follow from its table.
 """
@@ -177,3 +177,30 @@ ALONE = [
 ]
 
 FIGURES = [(name, text(given), text(expected)) for name, given, expected in STARRED + PRINTED + EDGES + READINGS + ALONE]
+
+# 02, request 1, sentence by sentence.
+TIDYING = [
+    ("nothing to drop", "factors 2;mul 1 2;box;1 2;3 4;", "factors 2;mul 1 2;"),
+    ("a dead line before the first used one", "factors 2;inv 2;pow 1 2;addc 4 7;box;1 2;3 4;", "factors 2;pow 1 2;addc 3 7;"),
+    ("a dead line before the last line", "factors 2;pow 1 2;inv 2;addc 3 7;box;1 2;3 4;", "factors 2;pow 1 2;addc 3 7;"),
+    ("all but the last line dead", "factors 2;pow 1 2;inv 3;mul 3 4;addc 2 7;box;1 2;3 4;", "factors 2;addc 2 7;"),
+    ("used through others", "factors 1;pow 1 2;addc 2 1;mulc 3 5;addc 4 1;inv 5;box;1 2;", "factors 1;pow 1 2;addc 2 1;mulc 3 5;addc 4 1;inv 5;"),
+    ("a dead line that a dead line uses", "factors 1;pow 1 2;pow 1 3;mulc 3 5;addc 2 1;box;1 2;", "factors 1;pow 1 2;addc 2 1;"),
+    ("both references renumbered", "factors 2;pow 1 2;inv 1;pow 2 2;inv 2;mul 5 3;add 7 5;box;1 2;3 4;",
+     "factors 2;pow 1 2;pow 2 2;mul 4 3;add 5 4;"),
+    ("a constant or an exponent that looks like a reference", "factors 1;inv 1;inv 1;pow 1 4;addc 4 4;mulc 5 4;box;1 2;",
+     "factors 1;pow 1 4;addc 2 4;mulc 3 4;"),
+    ("unused factors kept, the last one too", "factors 8;inv 8;addc 3 0;box;1 1;1 1;1 1;1 1;1 1;1 1;1 1;1 1;", "factors 8;addc 3 0;"),
+    ("equal lines kept, if both are used", "factors 1;inv 1;inv 1;inv 1;add 3 4;box;1 2;", "factors 1;inv 1;inv 1;add 2 3;"),
+    ("used though it is multiplied by 0", "factors 1;pow 1 2;inv 1;mulc 2 0;box;1 2;", "factors 1;pow 1 2;mulc 2 0;"),
+    ("a dead line refused with 11", "factors 1;inv 1;addc 1 0;box;0 10000;", "factors 1;addc 1 0;"),
+    ("a used line refused with 11", "factors 1;pow 1 2;inv 1;addc 3 0;box;0 10000;", "factors 1;inv 1;addc 2 0;"),
+    ("a number of two digits that comes to have one", "factors 7;" + "inv 1;" * 3 + "inv 2;inv 11;box;", "factors 7;inv 2;inv 8;"),
+    ("62 dead lines", lines("factors 1;", 63, "inv 1;") + "addc 1 5;box;1 1;", "factors 1;addc 1 5;"),
+    ("no dead line among 64", "factors 1;" + "".join(f"add {k} {k};" for k in range(1, 64)) + "box;0 0;",
+     "factors 1;" + "".join(f"add {k} {k};" for k in range(1, 64))),
+    ("refused by loading, in a dead line", "factors 1;inv 1;addc 2 2000000001;addc 1 0;box;1 1;", "refused 7 3;"),
+    ("refused for its last line", "factors 1;inv 1;addc 1 0", "refused 2 3;"),
+]
+
+TIDIED = [(name, text(given), text(expected)) for name, given, expected in TIDYING]

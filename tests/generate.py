@@ -2,18 +2,13 @@
 from reference.outcome import Refused
 from reference.ranges import LIMIT, UNIT, Range
 from reference.rating import Result, Rules
-from reference.sheet import MOST_LINES, REFERENCES, Operation, Sheet
+from reference.sheet import MOST_LINES, REFERENCES, Operation, Sheet, sheet_text
 from reference.text import run
 
 NAMES = ("add", "mul", "addc", "mulc", "pow", "inv")
 
 
 # ---- text
-
-def sheet_text(sheet):
-    rows = [("factors", sheet.factors)] + [(name, *numbers) for name, numbers in sheet.operations]
-    return "".join("\t".join(map(str, row)) + "\n" for row in rows).encode()
-
 
 def box_text(ranges):
     return b"box\n" + "".join(f"{low}\t{high}\n" for low, high in ranges).encode()

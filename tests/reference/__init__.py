@@ -1,8 +1,9 @@
-"""The rules of paper 01 once more, over unlimited whole numbers and exact fractions, written for clarity and not for speed.
+"""The rules of paper 01 once more, and of 02 as its requests land, over unlimited whole numbers and exact fractions, for clarity and not speed.
 
 sheet.py   the text of a sheet and refusals 1 to 7
 ranges.py  range arithmetic
 rating.py  sets, bends, the table of the lines, refusals 8 to 12
 exact.py   the exact side, and what a result promises of it
 text.py    the program `rate`: from the bytes of its input to the bytes it prints
+tidy.py    02, request 1: tidied sheets, and the program `tidy`
 """

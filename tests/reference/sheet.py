@@ -1,4 +1,4 @@
-"""01, "The sheet" and refusals 1 to 7: from bytes to a codelist."""
+"""01, "The sheet" and refusals 1 to 7: from bytes to a codelist, and back."""
 import re
 from typing import NamedTuple
 
@@ -34,6 +34,12 @@ def text_lines(text):
     lines = text.split(b"\n")
     ended = lines[-1] == b""
     return (lines[:-1] if ended else lines), ended
+
+
+def sheet_text(sheet):
+    """The bytes that a sheet is written in: `load` takes them back to it, and each accepted sheet is written in one way only."""
+    rows = [("factors", sheet.factors)] + [(name, *numbers) for name, numbers in sheet.operations]
+    return "".join("\t".join(map(str, row)) + "\n" for row in rows).encode()
 
 
 def load(text, note=unnoted):

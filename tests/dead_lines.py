@@ -1,0 +1,94 @@
+"""Random inputs for `rate` whose sheets have dead lines put in: operation lines that the last line does not use."""
+from generate import blind, grown, input_text, overreaching, scaled, some_operation, sums
+from reference.outcome import Refused
+from reference.ranges import LIMIT, Range
+from reference.rating import rate
+from reference.sheet import MOST_LINES, REFERENCES, Operation, Sheet
+from reference.text import run
+from reference.tidy import Tidying, last_line, operation_at
+
+USED = Tidying().used
+TRIES = 6  # random lines that are tried before one is made for its refusal
+
+
+def inserted(sheet, place, name, *numbers):
+    """The sheet with one more operation as codelist line `place`: what stood there and behind it moves on, and with it each reference to it."""
+    def moved(operation):
+        count = REFERENCES[operation.name]
+        return Operation(operation.name, tuple(i + (i >= place) for i in operation.numbers[:count]) + operation.numbers[count:])
+    at = place - sheet.factors - 1
+    before, after = sheet.operations[:at], sheet.operations[at:]
+    return Sheet(sheet.factors, before + (Operation(name, numbers),) + tuple(map(moved, after)))
+
+
+def some_place(rng, sheet):
+    """Where a line can be put in: before an operation, the first one or the last one, too."""
+    return rng.randint(sheet.factors + 1, last_line(sheet))
+
+
+def with_some_line(rng, sheet):
+    """A dead line of any kind: a copy of the line it stands before, or one on any earlier lines, half of them unused: factors or dead lines."""
+    place = some_place(rng, sheet)
+    if rng.random() < 0.15:
+        name, numbers = operation_at(sheet, place)
+        return inserted(sheet, place, name, *numbers)
+    used = USED(sheet)
+    unused = [line for line in range(1, place) if line not in used]
+
+    def reference():
+        return rng.choice(unused) if unused and rng.random() < 0.5 else rng.randint(1, place - 1)
+    return inserted(sheet, place, *some_operation(rng, reference))
+
+
+def with_refused_line(rng, sheet):
+    """A dead line that is always refused, of a line times 0: its inverse (11), or more than the limit added to it in two steps (12)."""
+    place = some_place(rng, sheet)
+    sheet = inserted(sheet, place, "mulc", rng.randint(1, place - 1), 0)
+    if rng.random() < 0.5:
+        return inserted(sheet, place + 1, "inv", place)
+    sheet = inserted(sheet, place + 1, "addc", place, LIMIT)
+    return inserted(sheet, place + 2, "addc", place + 1, rng.randint(1, LIMIT))
+
+
+def refused_at_dead_line(sheet, ends):
+    try:
+        rate(sheet, ends)
+    except Refused as refused:
+        number, place = refused.args[0]
+        return number in (11, 12) and place not in USED(sheet)
+    return False
+
+
+def harmless(rng, sheet, ends):
+    """Dead lines that are all accepted: the rating comes to what it came to without them."""
+    for _ in range(rng.choice((1, 1, 2, 3, 5, 9))):
+        longer = with_some_line(rng, sheet)
+        if last_line(longer) <= MOST_LINES and not refused_at_dead_line(longer, ends):
+            sheet = longer
+    return sheet
+
+
+def refused(rng, sheet, ends):
+    """A dead line that is refused before any other line is, and perhaps harmless ones before that."""
+    sheet = harmless(rng, sheet, ends) if rng.random() < 0.5 else sheet
+    tried = [with_some_line(rng, sheet) for _ in range(TRIES)] + [with_refused_line(rng, sheet)]
+    for longer in tried:
+        if last_line(longer) <= MOST_LINES and refused_at_dead_line(longer, ends):
+            return longer
+    return sheet
+
+
+def unlooked(rng, sheet, ends):
+    """Dead lines up to the most lines there may be, and nothing looked at."""
+    for _ in range(rng.randint(1, 12)):
+        if last_line(sheet) < MOST_LINES:
+            sheet = with_some_line(rng, sheet)
+    return sheet
+
+
+def case(rng):
+    """A kind's name and an input of it."""
+    given = run(rng.choices((grown, sums, overreaching, scaled, blind), (4, 2, 5, 2, 1))[0](rng))
+    kind = rng.choices((harmless, refused, unlooked), (5, 3, 2))[0]
+    ranges = [Range(*given.ends[k:k + 2]) for k in range(0, len(given.ends), 2)]
+    return f"dead lines, {kind.__name__}", input_text(kind(rng, given.sheet, given.ends), ranges)

@@ -1,0 +1,65 @@
+"""What a comparison counts: inputs that passed and failed, rules that were met, wrong rules that were told from the right ones."""
+import signal
+import subprocess
+from collections import Counter
+
+DIFFERENCES_SHOWN = 5
+TIMES_CAUGHT = 3  # a wrong rule is no longer tried once it was told from the right one this often
+
+
+class Tally:
+    """One comparison's count. `rules` names all that has to be met, `errors` the wrong rules that have to be told from the right ones."""
+    rules = []
+    errors = []
+
+    def __init__(self):
+        self.met = Counter()
+        self.caught = Counter()
+        self.passed = self.failed = 0
+
+    def note(self, rule):
+        self.met[rule] += 1
+
+    def judge(self, name, text, complaint):
+        """One input more, which passed where there is no complaint of it; the first complaints are shown."""
+        if not complaint:
+            self.passed += 1
+            return
+        if self.failed < DIFFERENCES_SHOWN:
+            print(f"{name}: input\n{text.decode('latin-1')}\n{complaint}")
+        self.failed += 1
+
+    def catch_errors(self, ours, of_wrong):
+        """Which wrong rules come to another print than the right ones."""
+        for wrong in self.errors:
+            if self.caught[wrong] < TIMES_CAUGHT and of_wrong(wrong) != ours:
+                self.caught[wrong] += 1
+
+    def show(self, rules):
+        for rule in rules:
+            print(f"{self.met[rule]:9}  {rule}")
+
+    def missed(self):
+        """What was never met, and what was met under a name that is not in the list."""
+        missed = [rule for rule in self.rules if not self.met[rule]]
+        missed += [f"told from the right rules: {wrong.__doc__}" for wrong in self.errors if not self.caught[wrong]]
+        return missed + [f"not in the list of rules: {rule}" for rule in sorted(set(self.met) - set(self.rules))]
+
+
+def out_of_time(*_):
+    raise TimeoutError
+
+
+signal.signal(signal.SIGALRM, out_of_time)
+
+
+def difference(binary, text, expected):
+    """How the print of a program differs from the expected one; nothing where it does not."""
+    signal.alarm(60)  # and no `timeout` below, with which Python naps until the program has ended: that doubles the time of a run
+    try:
+        got = subprocess.run([binary], input=text, stdout=subprocess.PIPE, close_fds=False).stdout
+    except TimeoutError:
+        return "--- no answer within a minute\n"
+    finally:
+        signal.alarm(0)
+    return "" if got == expected else f"--- expected\n{expected.decode()}--- got\n{got.decode('latin-1')}"

@@ -1,0 +1,110 @@
+"""Compares the program `tidy` with 02, request 1 (tests/reference/tidy.py): every printed byte, the same for its own print, and what `rate`
+prints of the tidied sheet beside what it prints of the sheet that came.
+"""
+from errors import TIDY_ERRORS
+from reference.outcome import Refusal, Refused
+from reference.rating import Result
+from reference.sheet import REFERENCES, load, sheet_text
+from reference.text import parted, printed, run
+from reference.tidy import Tidying, last_line, operation_at, tidy_printed
+from tally import Tally, difference
+
+RIGHT = Tidying()
+AGAIN_SHARE = 0.5  # of the random sheets with a line dropped, tidied and rated a second time
+
+# The last five are met only where a sheet with a line dropped is rated again.
+TIDY_RULES = [
+    *(f"tidy: refused by loading, {number}" for number in range(1, 8)),
+    "tidy: nothing dropped", "tidy: a line dropped", *(f"tidy: `{name}` dropped" for name in REFERENCES),
+    "tidy: a dropped line used by another dropped line", "tidy: a dropped line equal to a kept one",
+    "tidy: an unused factor kept", "tidy: a factor kept that only dropped lines use", "tidy: a line used only through others kept",
+    "tidy: a reference renumbered", *(f"tidy: `{name}` with a reference renumbered" for name in REFERENCES),
+    "tidy: 64 codelist lines",
+    "tidy: accepted as before", "tidy: refused by 8 as before", "tidy: refused by 9 as before",
+    "tidy: refused at a used line, at its new number", "tidy: accepted only because a dropped line was refused",
+]
+
+
+class TidyComparison(Tally):
+    rules = TIDY_RULES
+    errors = TIDY_ERRORS
+
+    def __init__(self, tidy, rate):
+        super().__init__()
+        self.tidy = tidy
+        self.rate = rate
+
+    def compare(self, name, text, outcome, expected=None, rng=None):
+        """The sheet of one input of `rate`, and the outcome that the reference gives of the whole input."""
+        given, box = parted(text)
+        ours = tidy_printed(given)
+        if expected is not None and ours != expected:
+            complaint = f"--- figure\n{expected.decode()}--- reference\n{ours.decode()}"
+        else:
+            complaint = difference(self.tidy, given, ours)
+        try:
+            sheet = load(given)
+        except Refused as refused:
+            self.note(f"tidy: refused by loading, {refused.args[0].number}")
+        else:
+            self.note_sheet(sheet)
+            self.catch_errors(ours, lambda wrong: sheet_text(wrong().tidied(sheet)))
+            if ours != given and (rng is None or rng.random() < AGAIN_SHARE):  # where the two sheets are one, nothing is left to compare
+                complaint += difference(self.tidy, ours, ours)
+                complaint += self.rating_complaint(sheet, outcome, ours if box is None else ours + b"box\n" + box)
+        self.judge(name + ", tidied", given, complaint)
+
+    def rating_complaint(self, sheet, outcome, tidied_text):
+        """`rate` of the tidied sheet with the same ranges: by what the request says of it, and by the reference's rating of it."""
+        if outcome.sheet is None:  # more bytes than `rate` takes, most of them behind the sheet
+            return ""
+        ours = run(tidied_text).answer
+        expected = self.expected(sheet, outcome.answer, ours)
+        complaint = "" if ours == expected else f"--- expected by the request\n{printed(expected).decode()}--- reference\n{printed(ours).decode()}"
+        return complaint + difference(self.rate, tidied_text, printed(expected))
+
+    def expected(self, sheet, before, ours):
+        """"Wherever the original sheet is accepted with some ranges, the tidied one gives the same result; where a dropped line was the one
+        refused, it may be accepted"; 8 and 9 ask only for the factors, all of which are kept."""
+        if isinstance(before, Result):
+            self.note("tidy: accepted as before")
+            return before
+        number, place = before
+        if number in (8, 9):
+            self.note(f"tidy: refused by {number} as before")
+            return before
+        kept = RIGHT.kept(sheet)
+        if place in kept:
+            new = RIGHT.new_number(place, kept)
+            if new != place:
+                self.note("tidy: refused at a used line, at its new number")
+            return Refusal(number, new)
+        if isinstance(ours, Result):
+            self.note("tidy: accepted only because a dropped line was refused")
+        return ours
+
+    def note_sheet(self, sheet):
+        """What there is to tidy in a sheet."""
+        last, kept, used = last_line(sheet), RIGHT.kept(sheet), RIGHT.used(sheet)
+        operations = range(sheet.factors + 1, last + 1)
+        dropped = [line for line in operations if line not in kept]
+        direct = {last, *RIGHT.references(sheet, last)}
+        named_by_dropped = {i for line in dropped for i in RIGHT.references(sheet, line)}
+        kept_operations = [operation_at(sheet, line) for line in operations if line in used]
+        moved = [operation for operation in kept_operations if RIGHT.renumbered(operation, kept) != operation]
+        self.note("tidy: a line dropped" if dropped else "tidy: nothing dropped")
+        self.met.update({f"tidy: `{operation_at(sheet, line).name}` dropped" for line in dropped})
+        self.met.update({f"tidy: `{operation.name}` with a reference renumbered" for operation in moved})
+        conditions = {
+            "tidy: a dropped line used by another dropped line": named_by_dropped & set(dropped),
+            "tidy: a dropped line equal to a kept one": {operation_at(sheet, line) for line in dropped} & set(kept_operations),
+            "tidy: an unused factor kept": set(kept) - used,
+            "tidy: a factor kept that only dropped lines use": named_by_dropped & (set(kept) - used),
+            "tidy: a line used only through others kept": used - direct - set(range(1, sheet.factors + 1)),
+            "tidy: a reference renumbered": moved,
+            "tidy: 64 codelist lines": last == 64,
+        }
+        self.met.update(rule for rule, holds in conditions.items() if holds)
+
+    def conclude(self):
+        self.show(TIDY_RULES)
