@@ -1,19 +1,25 @@
 #!/usr/bin/env python3
-"""tests/documents.py --binary PATH: runs the examples of README.md and docs/SHEET.md, and compares what the documents say is printed.
+"""tests/documents.py --binary PATH --tidy PATH: runs the examples of README.md, examples/README.md and docs/SHEET.md, and compares what the
+documents say is printed.
 
 An example of SHEET.md is a block between lines ```: the input, a line `prints:`, the output. `→` is a tab, and `LINE × N` is that line N times.
-The first example of each document is indented, and has a remark behind the fields of each line; in the README blanks stand for the tabs.
+With a line `tidied:` in the place of `prints:` the program is `tidy`, else it is `rate`. The first example of README.md and of SHEET.md is
+indented, and has a remark behind the fields of each line; in the README blanks stand for the tabs. In the same way an indented paragraph of
+any of the three may have a command as its first line, `$ target/bin/tidy < examples/FILE` (or `rate`) or `$ cat examples/FILE`, and what it
+prints below.
 
-Fails, too, where an operation or a refusal has no example.
+Fails, too, where an operation, a refusal or the program `tidy` has no example.
 """
 import argparse
 import re
 import subprocess
 import sys
 from pathlib import Path
+from typing import NamedTuple
 
 ROOT = Path(__file__).resolve().parent.parent
 OPERATIONS = ("add", "mul", "addc", "mulc", "pow", "inv")
+PROGRAMS = {"prints:": "rate", "tidied:": "tidy"}
 REFUSALS = [number for number in range(1, 13) if number != 10]  # the program loads a sheet before it rates
 
 
@@ -26,21 +32,35 @@ def written(lines):
     return "".join(out).encode()
 
 
+class Example(NamedTuple):
+    where: str
+    program: str
+    given: bytes
+    expected: bytes
+
+
 def blocks(document):
-    """The examples of a document: where each begins, its input and its output."""
+    """The examples of a document that stand between lines ```."""
     lines = document.read_text().split("\n")
     fences = [number for number, line in enumerate(lines) if line == "```"]
     for start, end in zip(fences[::2], fences[1::2]):
         block = lines[start + 1:end]
-        if "prints:" not in block:
-            raise SystemExit(f"{document.name}:{start + 1}: a block without a line 'prints:'")
-        at = block.index("prints:")
-        yield f"{document.name}:{start + 1}", written(block[:at]), written(block[at + 1:])
+        words = [line for line in block if line in PROGRAMS]
+        if len(words) != 1:
+            raise SystemExit(f"{document.name}:{start + 1}: a block without one line 'prints:' or 'tidied:'")
+        at = block.index(words[0])
+        yield Example(f"{document.name}:{start + 1}", PROGRAMS[words[0]], written(block[:at]), written(block[at + 1:]))
 
 
 def fields(line):
     """A line of an indented example without its remark: a word or numeral, and the numerals behind it."""
     return re.match(r" {4}([a-z]+|-?\d+)((?:(?: +|→)-?\d+)*)(?:  |$)", line)
+
+
+def unremarked(lines):
+    """The bytes of an indented example's lines."""
+    rows = [fields(line) for line in lines]
+    return "".join("\t".join([row[1], *row[2].replace("→", " ").split()]) + "\n" for row in rows).encode()
 
 
 def laid_out(document):
@@ -49,27 +69,43 @@ def laid_out(document):
 
     def paragraph(word):
         (found,) = [p for p in paragraphs if re.match(f"    {word}[ →]", p)]
-        rows = [fields(line) for line in found.split("\n")]
-        return "".join("\t".join([row[1], *row[2].replace("→", " ").split()]) + "\n" for row in rows).encode()
-    return document.name, paragraph("factors"), paragraph("value")
+        return unremarked(found.split("\n"))
+    return Example(document.name, "rate", paragraph("factors"), paragraph("value"))
+
+
+def commands(document):
+    """The examples of a document that begin with a command."""
+    for paragraph in document.read_text().split("\n\n"):
+        command, *output = paragraph.strip("\n").split("\n")
+        if not command.startswith("    $ "):
+            continue
+        form = re.fullmatch(r" {4}\$ (?:target/bin/(rate|tidy) <|(cat)) (examples/[\w.-]+)", command)
+        if form is None:
+            raise SystemExit(f"{document.name}: a command of another form: {command.strip()}")
+        yield Example(f"{document.name}: {command.strip()}", form[1] or form[2], (ROOT / form[3]).read_bytes(), unremarked(output))
 
 
 def unshown(examples):
-    """The operations without an accepted example that begins with them, and the refusals without an example."""
-    first = {given.split(b"\n")[1].split(b"\t")[0].decode() for _, given, expected in examples if expected.startswith(b"value")}
-    numbers = {int(expected.split(b"\t")[1]) for _, _, expected in examples if expected.startswith(b"refused")}
-    return [f"`{name}`" for name in OPERATIONS if name not in first] + [f"refusal {number}" for number in REFUSALS if number not in numbers]
+    """The operations without an accepted example that begins with them, the refusals without an example, and `tidy` without one."""
+    rated = [example for example in examples if example.program == "rate"]
+    first = {example.given.split(b"\n")[1].split(b"\t")[0].decode() for example in rated if example.expected.startswith(b"value")}
+    numbers = {int(example.expected.split(b"\t")[1]) for example in rated if example.expected.startswith(b"refused")}
+    missing = [f"`{name}`" for name in OPERATIONS if name not in first] + [f"refusal {number}" for number in REFUSALS if number not in numbers]
+    return missing + ([] if any(example.program == "tidy" for example in examples) else ["`tidy`"])
 
 
 def main():
     parser = argparse.ArgumentParser(description=__doc__, formatter_class=argparse.RawDescriptionHelpFormatter)
     parser.add_argument("--binary", required=True, help="the program `rate`")
-    binary = Path(parser.parse_args().binary).resolve()
-    readme, sheet = ROOT / "README.md", ROOT / "docs" / "SHEET.md"
+    parser.add_argument("--tidy", required=True, help="the program `tidy`")
+    arguments = parser.parse_args()
+    binaries = {"rate": Path(arguments.binary).resolve(), "tidy": Path(arguments.tidy).resolve(), "cat": "cat"}
+    readme, classes, sheet = ROOT / "README.md", ROOT / "examples" / "README.md", ROOT / "docs" / "SHEET.md"
     examples = [laid_out(readme), laid_out(sheet), *blocks(sheet)]
+    examples += [example for document in (readme, classes, sheet) for example in commands(document)]
     passed = failed = 0
-    for name, given, expected in examples:
-        got = subprocess.run([binary], input=given, stdout=subprocess.PIPE, timeout=60).stdout
+    for name, program, given, expected in examples:
+        got = subprocess.run([binaries[program]], input=given, stdout=subprocess.PIPE, timeout=60).stdout
         if got == expected:
             passed += 1
         else:
@@ -77,7 +113,7 @@ def main():
             print(f"{name}: input\n{given.decode()}--- the document says\n{expected.decode()}--- got\n{got.decode('latin-1')}")
     missing = unshown(examples)
     dinghy = ROOT / "examples" / "dinghy.in"
-    if examples[0][1:] != (dinghy.read_bytes(), dinghy.with_suffix(".out").read_bytes()):
+    if examples[0][2:] != (dinghy.read_bytes(), dinghy.with_suffix(".out").read_bytes()):
         missing.append("examples/dinghy in README.md as it stands")
     for what in missing:
         print(f"no example: {what}")
