@@ -1,10 +1,11 @@
 #!/usr/bin/env python3
 """Compares the programs `rate` and `tidy` with the papers' rules over unlimited whole numbers and exact fractions (tests/reference).
 
-tests/compare.py --binary PATH [--tidy PATH] [--seed N] [--count N] [--dead-lines N]
+tests/compare.py --binary PATH [--tidy PATH [--tidy-into PATH]] [--seed N] [--count N] [--dead-lines N]
     `rate`: the figures of 01, the examples, inputs that two refusals fit, and random ones: every printed byte; for a share of the accepted
     random ones also the exact premium and its derivatives, as fractions, at a point inside the ranges
     `tidy`: the sheets of all these, and sheets with dead lines put in (dead_lines.py): every printed byte, and `rate` of the tidied sheet
+    `tidy_into`: a share of them, with buffers that are too short, just long enough and longer: the outcome and every byte of the buffer
 tests/compare.py --self-test VECTORS [--program tidy]
     the reference alone against a file of vectors, one JSON object a line with "input" (hex) and "expected"
 
@@ -198,6 +199,7 @@ def main():
     parser = argparse.ArgumentParser(description=__doc__, formatter_class=argparse.RawDescriptionHelpFormatter)
     parser.add_argument("--binary", help="the program `rate`")
     parser.add_argument("--tidy", help="the program `tidy`")
+    parser.add_argument("--tidy-into", help="the program `tidy_into`, beside it")
     parser.add_argument("--seed", type=int, default=1)
     parser.add_argument("--count", type=int, default=6000, help="random inputs, beside the figures")
     parser.add_argument("--dead-lines", type=int, default=1500, help="random inputs with dead lines, where `tidy` is compared")
@@ -210,7 +212,8 @@ def main():
     if not arguments.binary:
         parser.error("--binary or --self-test")
     rating = Comparison(Path(arguments.binary).resolve())
-    tidying = TidyComparison(Path(arguments.tidy).resolve(), rating.binary) if arguments.tidy else None
+    into = Path(arguments.tidy_into).resolve() if arguments.tidy_into else None
+    tidying = TidyComparison(Path(arguments.tidy).resolve(), rating.binary, into) if arguments.tidy else None
     for name, text, expected, rng in inputs(arguments.seed, arguments.count):
         outcome = rating.compare(name, text, expected, rng)
         if tidying:

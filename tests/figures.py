@@ -178,6 +178,8 @@ ALONE = [
 
 FIGURES = [(name, text(given), text(expected)) for name, given, expected in STARRED + PRINTED + EDGES + READINGS + ALONE]
 
+LONGEST = "factors 1;" + "".join(f"addc {k} -2000000000;" for k in range(1, 64))
+
 # 02, request 1, sentence by sentence.
 TIDYING = [
     ("nothing to drop", "factors 2;mul 1 2;box;1 2;3 4;", "factors 2;mul 1 2;"),
@@ -199,6 +201,8 @@ TIDYING = [
     ("62 dead lines", lines("factors 1;", 63, "inv 1;") + "addc 1 5;box;1 1;", "factors 1;addc 1 5;"),
     ("no dead line among 64", "factors 1;" + "".join(f"add {k} {k};" for k in range(1, 64)) + "box;0 0;",
      "factors 1;" + "".join(f"add {k} {k};" for k in range(1, 64))),
+    # each line with as many digits as it can have: 1,261 bytes
+    ("the longest sheet", LONGEST + "box;0 0;", LONGEST),
     ("refused by loading, in a dead line", "factors 1;inv 1;addc 2 2000000001;addc 1 0;box;1 1;", "refused 7 3;"),
     ("refused for its last line", "factors 1;inv 1;addc 1 0", "refused 2 3;"),
 ]

@@ -53,13 +53,13 @@ def out_of_time(*_):
 signal.signal(signal.SIGALRM, out_of_time)
 
 
-def difference(binary, text, expected):
+def difference(binary, text, expected, *arguments):
     """How the print of a program differs from the expected one; nothing where it does not."""
     signal.alarm(60)  # and no `timeout` below, with which Python naps until the program has ended: that doubles the time of a run
     try:
-        got = subprocess.run([binary], input=text, stdout=subprocess.PIPE, close_fds=False).stdout
+        got = subprocess.run([binary, *arguments], input=text, stdout=subprocess.PIPE, close_fds=False).stdout
     except TimeoutError:
         return "--- no answer within a minute\n"
     finally:
         signal.alarm(0)
-    return "" if got == expected else f"--- expected\n{expected.decode()}--- got\n{got.decode('latin-1')}"
+    return "" if got == expected else f"--- expected\n{expected.decode('latin-1')}--- got\n{got.decode('latin-1')}"

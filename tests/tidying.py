@@ -1,16 +1,25 @@
 """Compares the program `tidy` with 02, request 1 (tests/reference/tidy.py): every printed byte, the same for its own print, and what `rate`
-prints of the tidied sheet beside what it prints of the sheet that came.
+prints of the tidied sheet beside what it prints of the sheet that came. The program `tidy_into` shows the call with a buffer of any length, every
+byte of which is compared.
 """
+import random
+
 from errors import TIDY_ERRORS
 from reference.outcome import Refusal, Refused
 from reference.rating import Result
 from reference.sheet import REFERENCES, load, sheet_text
 from reference.text import parted, printed, run
-from reference.tidy import Tidying, last_line, operation_at, tidy_printed
+from reference.tidy import Tidying, last_line, operation_at, tidy, tidy_printed
 from tally import Tally, difference
 
 RIGHT = Tidying()
 AGAIN_SHARE = 0.5  # of the random sheets with a line dropped, tidied and rated a second time
+BUFFER_SHARE = 0.2  # of the random sheets, tidied into a buffer of a length of its own
+
+BUFFER_RULES = [
+    "tidy into: refused by loading, the buffer as it was", "tidy into: an empty buffer", "tidy into: one byte too short", "tidy into: shorter still",
+    "tidy into: just long enough", "tidy into: bytes past the text kept",
+]
 
 # The last five are met only where a sheet with a line dropped is rated again.
 TIDY_RULES = [
@@ -26,13 +35,14 @@ TIDY_RULES = [
 
 
 class TidyComparison(Tally):
-    rules = TIDY_RULES
     errors = TIDY_ERRORS
 
-    def __init__(self, tidy, rate):
+    def __init__(self, tidy, rate, into=None):
         super().__init__()
         self.tidy = tidy
         self.rate = rate
+        self.into = into
+        self.rules = TIDY_RULES + (BUFFER_RULES if into else [])
 
     def compare(self, name, text, outcome, expected=None, rng=None):
         """The sheet of one input of `rate`, and the outcome that the reference gives of the whole input."""
@@ -52,7 +62,29 @@ class TidyComparison(Tally):
             if ours != given and (rng is None or rng.random() < AGAIN_SHARE):  # where the two sheets are one, nothing is left to compare
                 complaint += difference(self.tidy, ours, ours)
                 complaint += self.rating_complaint(sheet, outcome, ours if box is None else ours + b"box\n" + box)
+        if self.into and (rng is None or rng.random() < BUFFER_SHARE):
+            complaint += self.buffer_complaint(given, ours)
         self.judge(name + ", tidied", given, complaint)
+
+    def buffer_complaint(self, given, ours):
+        """The call with a buffer of its own length and bytes, none of them 0, since an argument of a program has none."""
+        rng = random.Random(given)
+        length = rng.choice((len(ours) - 1, len(ours), len(ours) + rng.randint(1, 40), rng.randint(0, len(ours)), 0))
+        before = bytes(rng.randint(1, 255) for _ in range(length))
+        answer, after = tidy(given, before)
+        self.note_buffer(answer, length, len(ours))
+        said = printed(answer) if isinstance(answer, Refusal) else f"written\t{answer}\n".encode()
+        return difference(self.into, given, said + after, before)
+
+    def note_buffer(self, answer, length, needed):
+        if not length:
+            self.note("tidy into: an empty buffer")
+        if not isinstance(answer, Refusal):
+            self.note("tidy into: just long enough" if length == needed else "tidy into: bytes past the text kept")
+        elif answer.number == 13:
+            self.note("tidy into: one byte too short" if length == needed - 1 else "tidy into: shorter still")
+        else:
+            self.note("tidy into: refused by loading, the buffer as it was")
 
     def rating_complaint(self, sheet, outcome, tidied_text):
         """`rate` of the tidied sheet with the same ranges: by what the request says of it, and by the reference's rating of it."""
@@ -107,4 +139,4 @@ class TidyComparison(Tally):
         self.met.update(rule for rule, holds in conditions.items() if holds)
 
     def conclude(self):
-        self.show(TIDY_RULES)
+        self.show(self.rules)
