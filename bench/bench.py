@@ -1,11 +1,12 @@
 #!/usr/bin/env python3
 """Times ratings of the proved engine beside plain C on the sheets of bench/sheets.
 
-bench/bench.py PATH_TO_RATE_MANY
+bench/bench.py PATH_TO_RATE_MANY [PATH_TO_AN_EARLIER_ONE]
 
 PATH N < SHEET loads the sheet once and rates it N times; bench/reference.c, built here with cc -O3, does the same. Both run in turn.
 Nanoseconds are the least processor time of all rounds, and the ratio is that of the two; the median is that of the rounds' own ratios, which a busy
-machine moves. Both are printed, since they differ. A run of one rating is taken off, so that starting and loading do not count.
+machine moves. Both are printed, since they differ. A run of one rating is taken off, so that starting and loading do not count. An earlier build is
+timed beside the engine in the same way, sheet by sheet.
 """
 import os
 import shutil
@@ -116,14 +117,19 @@ def measure(engine, plain, sheets):
     return measured
 
 
-def table(title, sheets, engine, plain):
-    print(f"\n{title}\n{'sheet':<20}{'factors':>8}{'lines':>7}{'engine ns':>12}{'C ns':>10}{'ratio':>8}{'median':>8}", flush=True)
+def table(title, sheets, engine, plain, other="C"):
+    print(f"\n{title}\n{'sheet':<20}{'factors':>8}{'lines':>7}{'engine ns':>12}{other + ' ns':>12}{'ratio':>8}{'median':>8}", flush=True)
     rows = []
     for sheet, (ours, theirs, ratio, median) in zip(sheets, measure(engine, plain, sheets)):
         factors, lines = shape(sheet)
-        print(f"{sheet.stem:<20}{factors:>8}{lines:>7}{ours:>12.0f}{theirs:>10.0f}{ratio:>8.2f}{median:>8.2f}")
+        print(f"{sheet.stem:<20}{factors:>8}{lines:>7}{ours:>12.0f}{theirs:>12.0f}{ratio:>8.3f}{median:>8.3f}")
         rows.append(Row(factors, lines, ours, theirs, ratio, median))
     return rows
+
+
+def means(rows):
+    for name in ("ratio", "median"):
+        print(f"  geometric mean of the {name}s: {exp(statistics.fmean(log(getattr(row, name)) for row in rows)):.3f}")
 
 
 def fits(rows, size):
@@ -136,9 +142,9 @@ def fits(rows, size):
 
 
 def main():
-    if len(sys.argv) != 2:
+    if len(sys.argv) not in (2, 3):
         sys.exit(__doc__)
-    engine = Path(sys.argv[1]).resolve()
+    engine, *earlier = [Path(argument).resolve() for argument in sys.argv[1:]]
     with tempfile.TemporaryDirectory() as folder:
         plain = build(folder)
         all_sheets = sorted(SHEETS.glob("*.txt"), key=lambda sheet: (shape(sheet), sheet.stem))
@@ -146,9 +152,9 @@ def main():
         by_lines = [sheet for sheet in all_sheets if sheet.stem.startswith("growth-lines-")]
         by_factors = [sheet for sheet in all_sheets if sheet.stem.startswith("growth-factors-")]
 
-        rows = table("Classes, nanoseconds per rating", classes, engine, plain)
-        for name in ("ratio", "median"):
-            print(f"  geometric mean of the {name}s: {exp(statistics.fmean(log(getattr(row, name)) for row in rows)):.2f}")
+        for before in earlier:
+            means(table("Beside the earlier build, nanoseconds per rating", classes, engine, before, "earlier"))
+        means(table("Classes, nanoseconds per rating", classes, engine, plain))
         fits(table("Growth with the lines, 4 factors", by_lines, engine, plain), "lines")
         fits(table("Growth with the factors, 32 lines", by_factors, engine, plain), "factors")
 
