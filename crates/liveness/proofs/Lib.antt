@@ -6,6 +6,7 @@ pub mod Simulation
 pub mod Tidied
 pub mod Again
 pub mod Same
+pub mod Differ
 pub mod Lengths
 pub mod Calls
 pub mod Refusals

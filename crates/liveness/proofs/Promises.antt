@@ -4,6 +4,7 @@ use Rattle.liveness.proofs.Used.{computed}
 use Rattle.liveness.proofs.Tidied.{tidied-factors}
 use Rattle.liveness.proofs.Again.{no-dead-line, idempotent}
 use Rattle.liveness.proofs.Same.{same-rating, same-premium}
+use Rattle.liveness.proofs.Differ.{differ}
 use Rattle.liveness.proofs.Lengths.{no-longer, at-most}
 use Rattle.liveness.proofs.Calls.{loads, again, leaves, written-exactly}
 use Rattle.liveness.proofs.Refusals.{table, numbers, never-short, never-13, untouched}
@@ -20,6 +21,7 @@ tidies = record {
   idempotent-bytes = again;
   same-result = λ c w xs. same-rating c w xs .result;
   same-refusal = λ c w xs. same-rating c w xs .refusal;
+  differ = differ;
   same-premium = same-premium;
   at-most = at-most;
   no-longer = no-longer;

@@ -38,7 +38,7 @@ module _ (k : ℕ → Bool) where
       go false g h = rw (tidy-dropped k e o os g) (rw (position-dropped k e g) at h)
 
 -- ---- of a codelist
-pub operations-of : (n : ℕ) (os : List Entry) → operations (codelistOf n os) ≡ os
+operations-of : (n : ℕ) (os : List Entry) → operations (codelistOf n os) ≡ os
 unfolding codelistOf
 operations-of n os = take-append-seam os _
 
@@ -59,7 +59,7 @@ module _ (c : Codelist) where
   unfolding tidied codelistOf
   tidied-factors = refl
 
-  pub tidied-count : tidied c .count ≡ length (tidiedOps c)
+  tidied-count : tidied c .count ≡ length (tidiedOps c)
   unfolding tidied codelistOf
   tidied-count = refl
 

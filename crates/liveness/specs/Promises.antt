@@ -11,6 +11,8 @@ use Rattle.codelist.specs.Codelist.{WellFormed}
 use Rattle.codelist.specs.Load.{loadOf, accepted}
 use Rattle.codelist.specs.Write.{textOf}
 use Rattle.rules.specs.declared.Limits.{Limits}
+use Rattle.rules.specs.declared.Outcome as rating
+use Rattle.rules.specs.declared.Rating.{Rating}
 use Rattle.rules.specs.declared.Refusal as rules
 use Rattle.rules.specs.declared.Refusal.the-variants.{NoCodelist, RangeCount, BadRange, Divisor, Overflow}
 use Rattle.rules.specs.Rate.{rateOf, rated, refused}
@@ -34,13 +36,20 @@ AtUsed c NoCodelist = Unit
 AtUsed c RangeCount = Unit
 AtUsed c (BadRange a) = Unit
 
--- the same refusal, at the line's new number
+-- the same refusal, and the same rating, at the line's new number
 abbrev pub refusalAt : (ℕ → ℕ) → rules.Refusal → rules.Refusal
 refusalAt f (Divisor k) = Divisor (f k)
 refusalAt f (Overflow k) = Overflow (f k)
 refusalAt f NoCodelist = NoCodelist
 refusalAt f RangeCount = RangeCount
 refusalAt f (BadRange a) = BadRange a
+
+abbrev pub outcomeAt : (ℕ → ℕ) → rating.Outcome → rating.Outcome
+outcomeAt f rating.the-variants.Rated = rating.the-variants.Rated
+outcomeAt f (rating.the-variants.Refused r) = rating.the-variants.Refused (refusalAt f r)
+
+abbrev pub ratingAt : (ℕ → ℕ) → Rating → Rating
+ratingAt f x = record { outcome = outcomeAt f (x .outcome); limits = x .limits }
 
 pub record Tidies : Type 0 where
   -- the lines that are kept are those that the last one uses, "directly or through others", and the factors: "all factors kept"
@@ -60,6 +69,9 @@ pub record Tidies : Type 0 where
   -- and the same refusal, unless "a dropped line was the one refused"
   pub same-refusal : (c : Codelist) → WellFormed c → (xs : List ℤ) (r : rules.Refusal) → AtUsed c r → rateOf c xs ≡ refused r
       → rateOf (tidied c) xs ≡ refused (refusalAt (position (kept c)) r)
+  -- so that the two differ only there
+  pub differ : (c : Codelist) → WellFormed c → (xs : List ℤ) → ¬ (rateOf (tidied c) xs ≡ ratingAt (position (kept c)) (rateOf c xs))
+      → (r : rules.Refusal) × ((rateOf c xs ≡ refused r) × (¬ AtUsed c r))
   -- the exact premium and its derivatives, and whether there are any
   pub same-premium : (c : Codelist) → WellFormed c → (p : Point) → premiumOf (tidied c) p ≡ premiumOf c p
   -- no sheet that is accepted has more than 1,261 bytes

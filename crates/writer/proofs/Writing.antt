@@ -21,7 +21,7 @@ put-length o b = go (ltb (o .at) (length (o .bytes)))
     go true = length-set (o .bytes) (o .at) b
     go false = refl
 
-pub putText-length : (o : Lent) (t : List ℕ) → length (putText o t .bytes) ≡ length (o .bytes)
+putText-length : (o : Lent) (t : List ℕ) → length (putText o t .bytes) ≡ length (o .bytes)
 unfolding putText
 putText-length o [] = refl
 putText-length o (b ∷ t) = putText-length (put o b) t ∙ put-length o b
@@ -40,7 +40,7 @@ put-inside o b h = go (ltb (o .at) (length (o .bytes))) refl
     go true e = omega (arith, ltb-true (o .at) (length (o .bytes)) e, length-set (o .bytes) (o .at) b)
     go false e = h
 
-pub putText-inside : (o : Lent) (t : List ℕ) → o .at ≤ length (o .bytes) → putText o t .at ≤ length (putText o t .bytes)
+putText-inside : (o : Lent) (t : List ℕ) → o .at ≤ length (o .bytes) → putText o t .at ≤ length (putText o t .bytes)
 unfolding putText
 putText-inside o [] h = h
 putText-inside o (b ∷ t) h = putText-inside (put o b) t (put-inside o b h)
