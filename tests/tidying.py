@@ -13,7 +13,6 @@ from reference.tidy import Tidying, last_line, operation_at, tidy, tidy_printed
 from tally import Tally, difference
 
 RIGHT = Tidying()
-AGAIN_SHARE = 0.5  # of the random sheets with a line dropped, tidied and rated a second time
 BUFFER_SHARE = 0.2  # of the random sheets, tidied into a buffer of a length of its own
 
 BUFFER_RULES = [
@@ -21,7 +20,7 @@ BUFFER_RULES = [
     "tidy into: just long enough", "tidy into: bytes past the text kept",
 ]
 
-# The last five are met only where a sheet with a line dropped is rated again.
+# The last five are met only where a line was dropped, since only then the tidied sheet is rated.
 TIDY_RULES = [
     *(f"tidy: refused by loading, {number}" for number in range(1, 8)),
     "tidy: nothing dropped", "tidy: a line dropped", *(f"tidy: `{name}` dropped" for name in REFERENCES),
@@ -59,7 +58,7 @@ class TidyComparison(Tally):
         else:
             self.note_sheet(sheet)
             self.catch_errors(ours, lambda wrong: sheet_text(wrong().tidied(sheet)))
-            if ours != given and (rng is None or rng.random() < AGAIN_SHARE):  # where the two sheets are one, nothing is left to compare
+            if ours != given:  # where the two sheets are one, nothing is left to compare
                 complaint += difference(self.tidy, ours, ours)
                 complaint += self.rating_complaint(sheet, outcome, ours if box is None else ours + b"box\n" + box)
         if self.into and (rng is None or rng.random() < BUFFER_SHARE):
