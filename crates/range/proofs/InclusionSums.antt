@@ -1,14 +1,15 @@
 -- Sums over the factors of a set: what the sums of products and of squares hold, and what the root bounds. Assumes nothing.
-use mathlib.Core.Path.{_≡_, refl, sym, _∙_}
+use mathlib.Core.Path.{_≡_, refl, sym, _∙_, ap}
 use mathlib.Core.List.{List}
 use mathlib.Core.Bool.{Bool, true, false, cond, _&&_}
 use Prim.Native.Nat.{ℕ, suc, _*_, _<_}
 use lib.Dec.{T}
 use lib.IntN.{ℤ, pos, negsuc, negℤ, _*ℤ_, natAbs}
 use lib.Signed.{_≤ℤ_, ≤ℤ-refl}
+use Rattle.algebra.proofs.Ring as Ring
 use Rattle.algebra.proofs.Ordered as Ord
 use Rattle.algebra.proofs.Sum as Sum
-use Rattle.algebra.proofs.Int.{ints, neg-dif, pos-≤, ≤ℤ-trans}
+use Rattle.algebra.proofs.Int.{ints, ℤ-ring, neg-dif, pos-≤, ≤ℤ-trans}
 use Rattle.exact.proofs.Sqrt.{ceil-root}
 use Rattle.exact.proofs.Rat as Q
 use Rattle.exact.proofs.Rat.{ℚ, _*ℚ_, _≤ℚ_, 0ℚ}
@@ -22,7 +23,7 @@ use Rattle.range.specs.Sums.{largestSquare, squareSum, squaresOf, rootSu
 use Rattle.range.specs.Inclusion.{_∈_, Members, sumOverℚ}
 use Rattle.range.proofs.Valid.{and-left, and-right, if-valid, if-passed, kept-valid, kept-is}
 use Rattle.range.proofs.Extremes.{greater-left, greater-right}
-use Rattle.range.proofs.SumOver.{sumOver-mono, sumOver-nonneg, members-valid}
+use Rattle.range.proofs.SumOver.{sumOver-scale, sumOver-mono, sumOver-nonneg, members-valid}
 use Rattle.exact.proofs.Units.{units-0, units-nonneg, ceil-above, products-≤, sum-units}
 use Rattle.range.proofs.Holds.{InRange, if-∈, kept-∈}
 use Rattle.range.proofs.Bounded.{between-of, one-nonneg, product-scaled}
@@ -69,13 +70,19 @@ products-∈ {s} {g} {h} {x} {y} m n =
         (each-between m (and-left (validOver s g) (validOver s h) v) a l t)
         (each-between n (and-right (validOver s g) (validOver s h) v) a l t)
 
--- ---- squares
-pub square-upper : {r : Range} {x : ℚ} → InRange x r → x *ℚ x ≤ℚ units (largestSquare r)
+-- ---- squares: before it is divided, a square is so many units of a unit
+abbrev unit : ℚ
+unit = units (pos 1)
+
+square-below : (u : ℤ) {z : ℤ} → (u *ℤ u) ≤ℤ z → units u *ℚ units u ≤ℚ unit *ℚ units z
+square-below u {z} h = products-≤ u u (pos 1) z (rw (Ring.one-mul ℤ-ring z) h)
+
+square-upper : {r : Range} {x : ℚ} → InRange x r → x *ℚ x ≤ℚ unit *ℚ units (largestSquare r)
 unfolding largestSquare
 square-upper {r} i =
-    Ord.square-upper ℚ-ordered (i .low) (i .high)
-    (ceil-above (r .low) (r .low) (greater-left (r .low *ℤ r .low) (r .high *ℤ r .high)))
-    (ceil-above (r .high) (r .high) (greater-right (r .low *ℤ r .low) (r .high *ℤ r .high)))
+    let l = r .low *ℤ r .low in
+    let h = r .high *ℤ r .high in
+    Ord.square-upper ℚ-ordered (i .low) (i .high) (square-below (r .low) (greater-left l h)) (square-below (r .high) (greater-right l h))
 
 pub squares-nonneg : (s : ℕ) (x : ℕ → ℚ) → 0ℚ ≤ℚ sumOverℚ s (λ a. x a *ℚ x a)
 squares-nonneg s x = sumOver-nonneg ℚ-ordered s (λ a l t. Ord.square-nonneg ℚ-ordered (x a))
@@ -83,7 +90,14 @@ squares-nonneg s x = sumOver-nonneg ℚ-ordered s (λ a l t. Ord.square-nonneg �
 pub squares-upper : {s : ℕ} {g : List Range} {x : ℕ → ℚ} → Members s x g → T (validOver s g)
     → sumOverℚ s (λ a. x a *ℚ x a) ≤ℚ units (squareSum s g)
 unfolding squareSum
-squares-upper {s} {g} m v = sum-upper s (λ a. largestSquare (at g a)) (λ a l t. square-upper (each-between m v a l t))
+squares-upper {s} {g} m v =
+    let squares : ℕ → ℤ = λ a. largestSquare (at g a) in
+    let total = sumOverℤ s squares in
+    Q.≤ℚ-trans
+    (sumOver-mono ℚ-ordered s (λ a l t. square-upper (each-between m v a l t)))
+    (Ord.eq-le ℚ-ordered
+    (sumOver-scale ℚ-ring s unit (λ a. units (squares a)) ∙ ap (unit *ℚ_) (sym (sumOver-units s squares)))
+    (ceil-above (pos 1) total (rw (Ring.one-mul ℤ-ring total) (≤ℤ-refl total))))
 
 pub squares-∈ : {s : ℕ} {g : List Range} {x : ℕ → ℚ} → Members s x g → sumOverℚ s (λ a. x a *ℚ x a) ∈ squaresOf s g
 unfolding squaresOf

@@ -2,22 +2,22 @@
 use mathlib.Core.Bool.{Bool, true, false, _&&_, not, cond}
 use mathlib.Core.List.{List}
 use mathlib.Core.Logic.{inl, inr}
-use Prim.Native.Nat.{ℕ, zero, suc, _<_, zero-le}
+use Prim.Native.Nat.{ℕ, zero, suc, _*_, _<_, zero-le}
 use native.Mathlib.Nat as N
 use lib.Dec.{T}
-use lib.IntN.{ℤ, pos, negℤ, _*ℤ_}
+use lib.IntN.{ℤ, pos, negℤ, _*ℤ_, natAbs}
 use lib.Signed.{leZ, _≤ℤ_, ≤ℤ-refl, <ℤ-≤ℤ-trans, leZ-yes}
 use Rattle.algebra.proofs.Ordered as Ord
 use Rattle.algebra.proofs.Int.{ℤ-ordered}
 use Rattle.algebra.proofs.Int.{ints, neg-dif, +ℤ-mono, neg-anti, pos-≤, natAbs-mono, ≤ℤ-trans, ≤ℤ-<ℤ-trans}
 use Rattle.exact.proofs.Div.{floor-mono, ceil-mono, floor≤ceil}
-use Rattle.exact.proofs.Sqrt.{ceil-root-mono}
+use Rattle.exact.proofs.Sqrt.{ceilSqrt, ceil-root-mono}
 use Rattle.range.specs.declared.Range.{Range}
 use Rattle.range.specs.Limit.{fromTo, oneRange, over, isValid, kept}
 use Rattle.range.specs.Arithmetic.{lesserOf, greaterOf, leastProduct, greatestProduct, endsSum, endsNeg, endsTimes, endsProduct}
 use Rattle.range.specs.Arithmetic.{endsInverse, endsHull, holdsZero, sumOf, negOf, timesOf, productOf, inverseOf, hullOf}
 use Rattle.range.specs.Power.{chain, upsWithin, isEven, powOf}
-use Rattle.range.specs.Sums.{has, at, validOver, endsProducts, productsOf, largestSquare, squareSum, squaresOf, rootSum, rootOf}
+use Rattle.range.specs.Sums.{has, at, validOver, endsProducts, productsOf, largestSquare, squareSum, squaresOf, rootSum, endsRoot, rootOf}
 use Rattle.range.specs.Laws.{_⊑_, Narrower, Isotonicity}
 use Rattle.range.proofs.Valid.{and-left, and-right, and-both, ends-of, sticky₁-of}
 use Rattle.range.proofs.Extremes.{end-products, least-product, greatest-product, lesser-any}
@@ -28,6 +28,7 @@ use Rattle.range.proofs.PowerForms.{powOfValid, pow-form, ups-mono, abo
 use Rattle.exact.proofs.Div.{OneSign, floorQuot-anti, ceilQuot-anti, floorQuot≤ceilQuot}
 use Rattle.range.proofs.Inverting.{one-sign}
 use Rattle.range.proofs.SumOver.{sumOver-mono, members-valid, valid-over, squareSum-nonneg}
+use Rattle.range.proofs.Roots.{aroundOf}
 use Rattle.range.proofs.Within.{Within, within-of, within-⊑, ⊑-refl, if-isotone}
 use Rattle.range.proofs.Within.{unless-isotone, kept-isotone, sticky₁-isotone, sticky₂-isotone}
 
@@ -236,36 +237,29 @@ unfolding largestSquare
 square-mono {a} {c} w =
     let l = greater-left (c .low *ℤ c .low) (c .high *ℤ c .high) in
     let r = greater-right (c .low *ℤ c .low) (c .high *ℤ c .high) in
-    ceil-mono ten-thousand
-    (greater-any (a .low *ℤ a .low) (a .high *ℤ a .high) (λ z. z ≤ℤ greaterOf (c .low *ℤ c .low) (c .high *ℤ c .high))
+    greater-any (a .low *ℤ a .low) (a .high *ℤ a .high) (λ z. z ≤ℤ greaterOf (c .low *ℤ c .low) (c .high *ℤ c .high))
     (Ord.square-upper ℤ-ordered (w .low) (≤ℤ-trans (w .order) (w .high)) l r)
-    (Ord.square-upper ℤ-ordered (≤ℤ-trans (w .low) (w .order)) (w .high) l r))
+    (Ord.square-upper ℤ-ordered (≤ℤ-trans (w .low) (w .order)) (w .high) l r)
 
 squares-mono : {s : ℕ} {f g : List Range} → MembersWithin s f g → squareSum s f ≤ℤ squareSum s g
 unfolding squareSum
-squares-mono {s} m = sumOver-mono ℤ-ordered s (λ a l u. square-mono (m .within a l u))
+squares-mono {s} m = ceil-mono ten-thousand (sumOver-mono ℤ-ordered s (λ a l u. square-mono (m .within a l u)))
 
 squares-within : {s : ℕ} {f g : List Range} → MembersWithin s f g → Within (fromTo (pos 0) (squareSum s f)) (fromTo (pos 0) (squareSum s g))
 squares-within {s} {f} m = record { low = ≤ℤ-refl (pos 0); order = squareSum-nonneg s f; high = squares-mono m }
 
 -- ---- root
-root-mono : {s : ℕ} {f g h k : List Range} → MembersWithin s f h → MembersWithin s g k → rootSum s f g ≤ℤ rootSum s h k
-unfolding rootSum
-root-mono {s} {f} {g} m n =
-    pos-≤ (ceil-root-mono (N.mul-le-mul
-    (natAbs-mono (squareSum-nonneg s f) (squares-mono m))
-    (natAbs-mono (squareSum-nonneg s g) (squares-mono n))))
+-- from −β to β, β the root of the product of two sums, for any that are not negative
+pub around-within : {x y u v : ℤ} → pos 0 ≤ℤ x → x ≤ℤ u → pos 0 ≤ℤ y → y ≤ℤ v
+    → Within (aroundOf (ceilSqrt (natAbs x * natAbs y))) (aroundOf (ceilSqrt (natAbs u * natAbs v)))
+around-within {x} {y} {u} {v} p h q k =
+    let b = ceilSqrt (natAbs x * natAbs y) in
+    let l : pos b ≤ℤ pos (ceilSqrt (natAbs u * natAbs v)) = pos-≤ (ceil-root-mono (N.mul-le-mul (natAbs-mono p h) (natAbs-mono q k))) in
+    record { low = neg-anti l; order = omega (ints, neg-dif (pos b)); high = l }
 
-root-nonneg : (s : ℕ) (f g : List Range) → pos 0 ≤ℤ rootSum s f g
+root-within : {s : ℕ} {f g h k : List Range} → MembersWithin s f h → MembersWithin s g k → Within (endsRoot s f g) (endsRoot s h k)
 unfolding rootSum
-root-nonneg s f g = pos-≤ zero-le
-
-root-within : {s : ℕ} {f g h k : List Range} → MembersWithin s f h → MembersWithin s g k
-    → Within (fromTo (negℤ (rootSum s f g)) (rootSum s f g)) (fromTo (negℤ (rootSum s h k)) (rootSum s h k))
-root-within {s} {f} {g} m n =
-    let p = root-nonneg s f g in
-    let q = root-mono m n in
-    record { low = neg-anti q; order = omega (ints, neg-dif (rootSum s f g)); high = q }
+root-within {s} {f} {g} m n = around-within (squareSum-nonneg s f) (squares-mono m) (squareSum-nonneg s g) (squares-mono n)
 
 -- ---- the operations
 pub isotonicity : Isotonicity

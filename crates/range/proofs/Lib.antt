@@ -13,9 +13,10 @@ pub mod Fitting
 pub mod Zeros
 pub mod Inverting
 pub mod Climbing
-pub mod Squares
+pub mod Roots
 pub mod Pairs
 pub mod Scanning
+pub mod Squaring
 pub mod Crossing
 -- specs/Laws
 pub mod Closure
@@ -23,6 +24,8 @@ pub mod Symmetry
 pub mod Within
 pub mod Isotonicity
 pub mod Laws
+-- specs/Rounding
+pub mod Rounding
 -- the ends without a limit, which refusal 12 is held against
 pub mod Ordered
 pub mod Unlimited

@@ -8,6 +8,7 @@ use native.Mathlib.Nat as N
 use native.Mathlib.Numerals.{add-one}
 use native.Mathlib.Omega.{arith}
 use borrow.Author.Count.{below-more}
+use borrow.Author.Tests.{eq-eqb, ne-eqb}
 use lib.Dec.{T, eqb}
 use lib.Pow.{pow-pos, pow-mono}
 use lib.IntN.{ℤ, pos, natAbs, _+ℤ_, +ℤ-comm, +ℤ-idl}
@@ -43,9 +44,16 @@ module _ (s rest a : ℕ) (i : Scan s rest a) where
         ∙ ap (λ (n : ℕ). s / 2 ^ n) (sym (add-one a));
   }
 
+  -- its bit
   pub scan-has : has s a ≡ eqb (rest % 2) 1
   unfolding has
   scan-has = ap (λ (r : ℕ). eqb (r % 2) 1) (sym (i .left))
+
+  pub scan-member : rest % 2 ≡ 1 → has s a ≡ true
+  scan-member m = scan-has ∙ eq-eqb (rest % 2) 1 m
+
+  pub scan-outside : ¬ (rest % 2 ≡ 1) → has s a ≡ false
+  scan-outside m = scan-has ∙ ne-eqb (rest % 2) 1 m
 
   -- where nothing is left, no later factor is in the set
   pub scan-none : rest ≡ 0 → (b : ℕ) → a ≤ b → has s b ≡ false
@@ -108,7 +116,7 @@ module _ (s : ℕ) (f : ℕ → ℤ) where
       ∙ +ℤ-idl (sum ℤ-ring (n + a) (memberOr s f))
       ∙ sum-rest n a z
 
-  sum-end : (rest a : ℕ) → Scan s rest a → rest ≡ 0 → sum ℤ-ring a (memberOr s f) ≡ sumOverℤ s f
+  pub sum-end : (rest a : ℕ) → Scan s rest a → rest ≡ 0 → sum ℤ-ring a (memberOr s f) ≡ sumOverℤ s f
   unfolding sumOver
   sum-end rest a i z =
       sym (sum-rest (8 - a) a (scan-none s rest a i z)) ∙ ap (λ (k : ℕ). sum ℤ-ring k (memberOr s f)) (omega (arith, i .within))

@@ -1,6 +1,6 @@
 -- Sums over the factors of a set: equal, at most, or not negative where the summands of its members are; and lists of which the members are
 -- valid. Assumes nothing.
-use mathlib.Core.Path.{_≡_, refl, sym}
+use mathlib.Core.Path.{_≡_, refl, sym, _∙_}
 use mathlib.Core.Bool.{Bool, true, false, _||_, not, cond}
 use mathlib.Core.List.{List}
 use Prim.Native.Nat.{ℕ, zero, suc, _<_}
@@ -9,7 +9,8 @@ use native.Mathlib.Nat as N
 use native.Mathlib.Omega.{arith}
 use lib.Dec.{T}
 use lib.IntN.{pos, _*ℤ_}
-use lib.Signed.{leZ, _≤ℤ_}
+use lib.Signed.{_≤ℤ_}
+use Rattle.algebra.proofs.Ring as Ring
 use Rattle.algebra.proofs.Ring.{CommRing}
 use Rattle.algebra.proofs.Ordered as Ord
 use Rattle.algebra.proofs.Ordered.{OrderedRing}
@@ -20,7 +21,7 @@ use Rattle.range.specs.Limit.{isValid}
 use Rattle.range.specs.Sums.{has, sumOver, at, validBelow, validOver, largestSquare, squareSum}
 use Rattle.range.proofs.Extremes.{greater-left}
 use Rattle.range.proofs.Powers.{up-up}
-use Rattle.range.proofs.Valid.{T-true, and-left, and-right, and-both}
+use Rattle.range.proofs.Valid.{and-left, and-right, and-both}
 
 -- ---- sums
 -- the members' summands decide
@@ -32,6 +33,16 @@ module _ {R : Type 0} (𝓡 : CommRing R) (s : ℕ) {f g : ℕ → R} where
       part : {x y : R} (c : Bool) → (T c → x ≡ y) → cond c x (𝓡 .𝟘) ≡ cond c y (𝓡 .𝟘)
       part true h = h tt
       part false h = refl
+
+-- a common factor
+pub sumOver-scale : {R : Type 0} (𝓡 : CommRing R) (s : ℕ) (k : R) (f : ℕ → R)
+    → sumOver (𝓡 .𝟘) (𝓡 .add) s (λ a. 𝓡 .mul k (f a)) ≡ 𝓡 .mul k (sumOver (𝓡 .𝟘) (𝓡 .add) s f)
+unfolding sumOver
+sumOver-scale {R} 𝓡 s k f = Sum.sum-ext 𝓡 8 (λ a l. part (has s a) (f a)) ∙ Sum.sum-scale 𝓡 8 k (λ a. cond (has s a) (f a) (𝓡 .𝟘))
+  where
+    part : (c : Bool) (x : R) → cond c (𝓡 .mul k x) (𝓡 .𝟘) ≡ 𝓡 .mul k (cond c x (𝓡 .𝟘))
+    part true x = refl
+    part false x = sym (Ring.mul-zero 𝓡 k)
 
 module _ {R : Type 0} (𝓞 : OrderedRing R) where
   infix 50 _≤_
@@ -107,11 +118,8 @@ module _ (s : ℕ) (g : List Range) where
 pub largestSquare-nonneg : (r : Range) → pos 0 ≤ℤ largestSquare r
 unfolding largestSquare
 largestSquare-nonneg r =
-    up-up .low _ (≤ℤ-trans (Ord.square-nonneg ℤ-ordered (r .low)) (greater-left (r .low *ℤ r .low) (r .high *ℤ r .high)))
+    ≤ℤ-trans (Ord.square-nonneg ℤ-ordered (r .low)) (greater-left (r .low *ℤ r .low) (r .high *ℤ r .high))
 
 pub squareSum-nonneg : (s : ℕ) (g : List Range) → pos 0 ≤ℤ squareSum s g
 unfolding squareSum
-squareSum-nonneg s g = sumOver-nonneg ℤ-ordered s (λ a l u. largestSquare-nonneg (at g a))
-
-pub squareSum-sign : (s : ℕ) (g : List Range) → leZ (pos 0) (squareSum s g) ≡ true
-squareSum-sign s g = T-true (squareSum-nonneg s g .le)
+squareSum-nonneg s g = up-up .low _ (sumOver-nonneg ℤ-ordered s (λ a l u. largestSquare-nonneg (at g a)))

@@ -1,7 +1,8 @@
--- Ranges of 0 alone: the test that code makes of the ends' bits, and that the products and the largest square are 0. Assumes nothing.
+-- Ranges of 0 alone: the test that code makes of the ends' bits, and that the products are 0 and the largest square adds nothing. Assumes nothing.
 use mathlib.Core.Path.{_≡_, refl, sym, ap, ap₂, _∙_}
 use mathlib.Core.Bool.{Bool, true, false, _||_}
 use Prim.Native.Nat.{suc}
+use native.Mathlib.Nat.{add-zero}
 use native.Mathlib.Omega.{arith}
 use borrow.Author.Tests.{eqb-true, ne-eqb}
 use lib.Dec.{eqb}
@@ -10,10 +11,11 @@ use mir.Syntax.{w64}
 use mir.Val.{SFits, ofZ}
 use Rattle.exact.proofs.Div.{floorDiv, ceilDiv}
 use Rattle.range.specs.declared.Range.{Range}
+use Rattle.range.specs.declared.sums.Squares.{Squares}
 use Rattle.range.specs.Limit.{fromTo, zeroRange}
 use Rattle.range.specs.Arithmetic.{scaledOf, endsProduct}
 use Rattle.range.specs.Sums.{largestSquare}
-use Rattle.range.specs.Steps.{upTo, isZero}
+use Rattle.range.specs.Steps.{isZero, withSquare}
 use Rattle.range.proofs.Extremes.{least-product, greatest-product}
 use Rattle.range.proofs.Fitting.{and-first, and-second}
 
@@ -58,6 +60,6 @@ product-none a b e =
     rw (is-zeroRange b t) (none-of a zeroRange l l h h))
 
 -- ---- and its largest square
-pub square-none : (r : Range) → isZero r ≡ true → zeroRange ≡ upTo (largestSquare r)
-unfolding largestSquare ceilDiv floorDiv
-square-none r e = rw (is-zeroRange r e) refl
+pub square-none : (q : Squares) (r : Range) → isZero r ≡ true → q ≡ withSquare q (natAbs (largestSquare r))
+unfolding largestSquare
+square-none q r e = rw (is-zeroRange r e, add-zero (q .whole), add-zero (q .rest)) refl

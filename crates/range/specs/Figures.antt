@@ -90,6 +90,8 @@ figures =
     ∷ (rootOf 3 (two (only (pos 50000000)) zeroRange) (two zeroRange (only (pos 100))) gives fromTo (− 500000) (pos 500000))
     ∷ (squaresOf 3 (two (only (pos 50000000)) zeroRange) gives over)
     ∷ (productsOf 3 (two (only (pos 2000000000)) (only (− 2000000000))) (two (only (pos 20000)) (only (pos 20000))) gives zeroRange)
+    -- 02, request 2: the sum of the largest squares is divided by 10,000 and rounded up once (each by itself gave 0..2)
+    ∷ (squaresOf 3 (two (only (pos 1)) (only (pos 1))) gives fromTo (pos 0) (pos 1))
     ∷ (squaresOf 255 eight gives over)
     ∷ (rootOf 255 eight eight gives over)
     ∷ []

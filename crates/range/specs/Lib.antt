@@ -1,5 +1,5 @@
 -- 01, "Range arithmetic", in its order: Limit, Arithmetic, Power, Sums. Apart from these, Steps: what private functions give. Then what is
--- proved of the operations: Inclusion (what they mean for the numbers inside), Laws, Figures.
+-- proved of the operations: Inclusion (what they mean for the numbers inside), Laws, Rounding (squares rounded once), Figures.
 pub mod Limit
 pub mod Arithmetic
 pub mod Power
@@ -7,4 +7,5 @@ pub mod Sums
 pub mod Steps
 pub mod Inclusion
 pub mod Laws
+pub mod Rounding
 pub mod Figures

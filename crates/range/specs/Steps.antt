@@ -1,13 +1,14 @@
 -- What private functions give, end by end, on the way to an operation of 01.
 use mathlib.Core.Path.{_≡_}
 use mathlib.Core.Bool.{Bool, true, false, _&&_}
-use Prim.Native.Nat.{ℕ, _*_, _≤_}
+use Prim.Native.Nat.{ℕ, _+_, _*_, _/_, _%_, _≤_}
 use lib.Dec.{eqb}
 use lib.IntN.{ℤ, pos, negsuc, negℤ, natAbs, _*ℤ_}
 use lib.Signed.{leZ}
 use Rattle.exact.specs.Sqrt.{ceilSqrt}
 use Rattle.exact.specs.Div.{floorDiv, ceilDiv}
 use Rattle.range.specs.declared.Range.{Range}
+use Rattle.range.specs.declared.sums.Squares.{Squares}
 use Rattle.range.specs.Limit.{fromTo, isValid, kept}
 use Rattle.range.specs.Arithmetic.{lesserOf, greaterOf}
 
@@ -37,6 +38,19 @@ invBelow a = kept (endsOver (negsuc 99999999) (fromTo (negℤ (a .high)) (negℤ
 -- from 0 on
 abbrev pub upTo : ℤ → Range
 upTo x = fromTo (pos 0) x
+
+-- A sum of squares as the sum of their quotients by 10,000, `whole`, and that of the remainders, `rest`. How far eight of them go, each at most
+-- 4·10^18:
+pub record EightSquares (q : Squares) : Type 0 where
+  pub whole : q .whole ≤ 3200000000000000
+  pub rest : q .rest ≤ 79992
+
+-- the sum with the square x more, and the sum divided by 10,000 and rounded up
+abbrev pub withSquare : Squares → ℕ → Squares
+withSquare q x = record { whole = q .whole + x / 10000; rest = q .rest + x % 10000 }
+
+abbrev pub roundedUp : Squares → ℕ
+roundedUp q = q .whole + (q .rest + 9999) / 10000
 
 -- whether both ends are 0
 unfoldable pub isZero : Range → Bool

@@ -63,12 +63,13 @@ endsProducts s g h =
 unfoldable pub productsOf : ℕ → List Range → List Range → Range
 productsOf s g h = cond (validOver s g && validOver s h) (kept (endsProducts s g h)) over
 
--- Sq: "the largest squares, each divided by 10,000 and rounded up", and their sum.
+-- Sq: "the largest squares": the larger of the squares of the ends, not divided.
 unfoldable pub largestSquare : Range → ℤ
-largestSquare r = ceilDiv (greaterOf (r .low *ℤ r .low) (r .high *ℤ r .high)) 10000
+largestSquare r = greaterOf (r .low *ℤ r .low) (r .high *ℤ r .high)
 
+-- 02, request 2: the exact sum of the largest squares, divided by 10,000 and rounded up a single time.
 unfoldable pub squareSum : ℕ → List Range → ℤ
-squareSum s g = sumOverℤ s (λ a. largestSquare (at g a))
+squareSum s g = ceilDiv (sumOverℤ s (λ a. largestSquare (at g a))) 10000
 
 -- Sq: "from 0 to the sum of the largest squares".
 abbrev pub endsSquares : ℕ → List Range → Range

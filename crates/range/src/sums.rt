@@ -10,7 +10,7 @@ ghost use lib.Signed.{leZ};
 ghost use Rattle.range.specs.Limit.{isValid};
 ghost use Rattle.range.specs.Arithmetic.{sumOf, endsProduct};
 ghost use Rattle.range.specs.Sums.{at, rangesFrom, productsOf, largestSquare, squaresOf, rootOf};
-ghost use Rattle.range.specs.Steps.{upTo};
+ghost use Rattle.range.specs.Steps.{EightSquares, withSquare, roundedUp};
 use super::Range;
 use super::root::around_root;
 
@@ -33,16 +33,54 @@ fn range_at(t: &[i32], i: u16, a: usize) -> Range
     }
 }
 
-impl Range {
-    // From 0 to the larger of the squares of the ends, divided by 10,000 and rounded up.
-    fn ends_square(self) -> Range
-        requires { ⌜ isValid self ≡ true ⌝ }
-        ensures { λ r. ⌜ r ≡ upTo (largestSquare self) ⌝ }
+// An exact sum of squares. Eight squares may not fit 64 bits, so that their quotients and their remainders by 10,000 are added up apart.
+struct Squares {
+    whole: u64,
+    rest: u64,
+}
+
+impl Squares {
+    const NONE: Squares = Squares { whole: 0, rest: 0 };
+
+    // The sum with the square x more.
+    fn plus(self, x: u64) -> Squares
+        requires { ⌜ EightSquares self ⌝ }
+        ensures { λ q. ⌜ q ≡ withSquare self x ⌝ }
     {
-        if self.is_zero() {
-            return Range::ZERO;
+        Squares {
+            whole: self.whole + x / 10_000,
+            rest: self.rest + x % 10_000,
         }
-        self.end_by_end(self).sorted().scaled().from_zero()
+    }
+
+    // The sum with the largest square of a range more. Many slopes are zero, and are spared.
+    fn with(self, r: Range) -> Squares
+        requires { ⌜ EightSquares self ⌝ }
+        requires { ⌜ isValid r ≡ true ⌝ }
+        ensures { λ q. ⌜ q ≡ withSquare self (natAbs (largestSquare r)) ⌝ }
+    {
+        if r.is_zero() {
+            return self;
+        }
+        self.plus(r.largest_square())
+    }
+
+    // The sum divided by 10,000 and rounded up, a single time.
+    fn rounded_up(self) -> u64
+        requires { ⌜ EightSquares self ⌝ }
+        ensures { λ r. ⌜ r ≡ roundedUp self ⌝ }
+    {
+        self.whole + (self.rest + 9_999) / 10_000
+    }
+}
+
+impl Range {
+    // The larger of the squares of the ends.
+    fn largest_square(self) -> u64
+        requires { ⌜ isValid self ≡ true ⌝ }
+        ensures { λ r. ⌜ r ≡ natAbs (largestSquare self) ⌝ }
+    {
+        self.end_by_end(self).sorted().magnitude()
     }
 
     // The ends of a product in a sum, where many ranges are zero.
@@ -73,8 +111,8 @@ impl Range {
             (rootOf set (rangesFrom (now (t .entry)) i) (rangesFrom (now (t .entry)) j)) ⌝ }
     {
         let mut products = Range::ZERO;
-        let mut left = Range::ZERO;
-        let mut right = Range::ZERO;
+        let mut left = Squares::NONE;
+        let mut right = Squares::NONE;
         let mut rest = set;
         let mut a: usize = 0;
         while rest != 0 {
@@ -85,22 +123,22 @@ impl Range {
                     return Range::OVER;
                 }
                 products = products.ends_sum(g.slopes_product(h));
-                left = left.ends_sum(g.ends_square());
-                right = right.ends_sum(h.ends_square());
+                left = left.with(g);
+                right = right.with(h);
             }
             rest = rest / 2;
             a += 1;
         }
         products
             .kept()
-            .sum(around_root(left.magnitude(), right.magnitude()))
+            .sum(around_root(left.rounded_up(), right.rounded_up()))
     }
 
     // From 0 to the sum of the largest squares of the g_a over the factors a in the set, g the eight ranges of the list t at the offset i.
     pub fn sum_of_squares(set: u8, t: &[i32], i: u16) -> Range
         ensures { λ r. ⌜ r ≡ squaresOf set (rangesFrom (now (t .entry)) i) ⌝ }
     {
-        let mut total = Range::ZERO;
+        let mut total = Squares::NONE;
         let mut rest = set;
         let mut a: usize = 0;
         while rest != 0 {
@@ -109,11 +147,14 @@ impl Range {
                 if !g.valid() {
                     return Range::OVER;
                 }
-                total = total.ends_sum(g.ends_square());
+                total = total.with(g);
             }
             rest = rest / 2;
             a += 1;
         }
-        total.kept()
+        Range {
+            low: 0,
+            high: total.rounded_up() as i64,
+        }.kept()
     }
 }

@@ -1,4 +1,4 @@
--- 01, "Figures to hold it to": the starred ones, from the rules themselves. Each is a codelist with ranges and what rating gives.
+-- 01, "Figures to hold it to": the starred ones, and those of 02, from the rules themselves. Each is a codelist with ranges and what rating gives.
 use mathlib.Core.Path.{_≡_, refl}
 use mathlib.Core.List.{List, [], _∷_, map}
 use Prim.Native.Nat.{ℕ}
@@ -19,7 +19,7 @@ use Rattle.range.specs.Sums.{has, sumOver, validBelow, endsProducts, productsOf
 use Rattle.rules.specs.declared.Refusal.the-variants.{Divisor, Overflow}
 use Rattle.rules.specs.declared.Rating.{Rating}
 use Rattle.rules.specs.Sets.{apart, isSingle, only}
-use Rattle.rules.specs.Table.{factorRow, addRow, addcRow, mulcRow, mulRow, powRow, invRow, lineOf}
+use Rattle.rules.specs.Table.{factorRow, addRow, addcRow, mulcRow, mulRow, powRow, invRow, eight, lineOf}
 use Rattle.rules.specs.Run.{rowOf, invertsZero, within, runOps, factorLines, linesOf}
 use Rattle.rules.specs.Rate.{last, limitsOf, rated, refused, firstBad, rateRanges, rateOf}
 
@@ -122,6 +122,30 @@ figures =
     ∷ record { factors = 1; operations = Inv 1 ∷ []; ranges = 0 to 10000 ∷ []; gives = refused (Divisor 2) }
     -- on 1..1: 12 at line 2
     ∷ record { factors = 1; operations = Inv 1 ∷ []; ranges = 1 to 1 ∷ []; gives = refused (Overflow 2) }
+    -- 02, request 2: the largest squares are added exactly and rounded up once. In Cross, two factors on 0..0, `mulc→1→1`, `mulc→2→1`, `add→3→4`,
+    -- `mulc→1→5000`, `mulc→2→5000`, `add→6→7`, `mul→5→8`: E −71..73 (each square rounded up: −100..102)
+    ∷ record {
+      factors = 2;
+      operations = MulC 1 (pos 1) ∷ MulC 2 (pos 1) ∷ Add 3 4 ∷ MulC 1 (pos 5000) ∷ MulC 2 (pos 5000) ∷ Add 6 7 ∷ Mul 5 8 ∷ [];
+      ranges = zeroRange ∷ zeroRange ∷ [];
+      gives = let e = fromTo (− 71) (pos 73) in limits zeroRange (slopes zeroRange zeroRange) 3 3 e e;
+    }
+    -- In Sq, eight factors on 0..10000, all added, `mulc→15→5001`, `pow→16→2`: V 0..160065, slopes and E 0..40018 (each square rounded up: E 0..40032)
+    ∷ record {
+      factors = 8;
+      operations =
+          Add 1 2 ∷ Add 9 3 ∷ Add 10 4 ∷ Add 11 5 ∷ Add 12 6 ∷ Add 13 7 ∷ Add 14 8 ∷ MulC 15 (pos 5001) ∷ Pow 16 2 ∷ [];
+      ranges = eight (λ a. 0 to 10000);
+      gives = limits (0 to 160065) (eight (λ a. 0 to 40018)) 255 255 (0 to 40018) (0 to 40018);
+    }
+    -- Both factors on 2000000..2000000, `mulc→1→3001771`, `mulc→2→3315022`, `add→3→4`, `inv→5`: V 0..1, slopes −301..0 and −332..0, E 0..40 (each
+    -- square rounded up: Sq is 2000000001, and 12 at line 6)
+    ∷ record {
+      factors = 2;
+      operations = MulC 1 (pos 3001771) ∷ MulC 2 (pos 3315022) ∷ Add 3 4 ∷ Inv 5 ∷ [];
+      ranges = 2000000 to 2000000 ∷ 2000000 to 2000000 ∷ [];
+      gives = limits (0 to 1) (slopes (fromTo (− 301) (pos 0)) (fromTo (− 332) (pos 0))) 3 3 (0 to 40) (0 to 40);
+    }
     ∷ []
 
 -- two numbers a range

@@ -26,8 +26,8 @@ extended e b c = choose (eqb b c) e (hull e zero)
 abbrev pub spectrumOfSum : Formula → ℕ → Formula → ℕ → Formula
 spectrumOfSum e b f c = choose (apart b c) (hull e f) (extended e b (b ∪ c) ⊕ extended f c (b ∪ c))
 
--- 01's Sq (Λs of the sources): "the second power if the number of factors in the set is 1; else from 0 to the sum of the largest squares,
--- each divided by 10,000 and rounded up" (`endsSquares` of range's Sums).
+-- 01's Sq (Λs of the sources): "the second power if the number of factors in the set is 1; else from 0 to the sum of the largest squares", since
+-- 02, request 2, their "exact sum .., divided by 10,000 and rounded up a single time" (`endsSquares` of range's Sums).
 abbrev pub squareSpectrum : ℕ → List Range → Formula
 squareSpectrum s g = choose (isSingle s) (power (given (at g (only s))) 2) (sumOfSquares s g)
 

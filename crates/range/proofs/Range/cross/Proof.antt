@@ -11,8 +11,8 @@ use Rattle.range.specs.Sums.{rangesFrom}
 use Rattle.range.specs.Steps.{aroundRoot}
 use Rattle.range.proofs.Fitting.{first-valid, second-valid}
 use Rattle.range.proofs.Scanning.{scan-index, few-small, summed-small}
-use Rattle.range.proofs.Crossing.{product-few, square-few, squared-sign}
-use Rattle.range.proofs.Crossing.{Crossed, crossed-start, crossed-member, crossed-skip, crossed-over, crossed-end}
+use Rattle.range.proofs.Squaring.{squared-eight}
+use Rattle.range.proofs.Crossing.{product-few, Crossed, crossed-start, crossed-member, crossed-skip, crossed-over, crossed-end}
 use Rattle.range.proofs.Range.cross.Statement.{statement}
 use Rattle.range.proofs.Range.cross.Tie as tie
 
@@ -59,23 +59,17 @@ ends-sum-requires c κs =
     let inv = valid .before .before .before .before .before .before .loop .inv in
     (summed-small _ _ _ _ _ (inv .summed), rw (c .slopes-product .ensures) (few-small (product-few _ _ (left-valid valid) (right-valid valid))))
 
-ends-square-requires : tie.Need-ends-square-requires Inv-loop μ-loop
-ends-square-requires c κs = left-valid (c .before .before)
+with-requires : tie.Need-with-requires Inv-loop μ-loop
+with-requires c κs =
+    let valid = c .before .before in
+    let inv = valid .before .before .before .before .before .before .loop .inv in
+    (squared-eight _ _ _ _ _ (inv .first), left-valid valid)
 
-ends-sum-requires-2 : tie.Need-ends-sum-requires-2 Inv-loop μ-loop
-ends-sum-requires-2 c κs =
+with-requires-2 : tie.Need-with-requires-2 Inv-loop μ-loop
+with-requires-2 c κs =
     let valid = c .before .before .before in
     let inv = valid .before .before .before .before .before .before .loop .inv in
-    (summed-small _ _ _ _ _ (inv .first .summed), rw (c .ends-square .ensures) (few-small (square-few _ (left-valid valid))))
-
-ends-square-requires-2 : tie.Need-ends-square-requires-2 Inv-loop μ-loop
-ends-square-requires-2 c κs = right-valid (c .before .before .before .before)
-
-ends-sum-requires-3 : tie.Need-ends-sum-requires-3 Inv-loop μ-loop
-ends-sum-requires-3 c κs =
-    let valid = c .before .before .before .before .before in
-    let inv = valid .before .before .before .before .before .before .loop .inv in
-    (summed-small _ _ _ _ _ (inv .second .summed), rw (c .ends-square2 .ensures) (few-small (square-few _ (right-valid valid))))
+    (squared-eight _ _ _ _ _ (inv .second), right-valid valid)
 
 add-a : tie.Need-add-a Inv-loop μ-loop
 add-a c = let test = c .before in omega (arith, scan-index _ _ _ (test .before .loop .inv .summed .scan) (test .loop-test .taken))
@@ -92,17 +86,17 @@ loop-again c =
     (λ w.
     crossed-member _ _ _ _ _ _ _ _ (at .inv) _ _ f (w .0 .taken) (w .1 .ensures) (w .2 .ensures) _ _ _
     (sym (w .3 .ensures) ∙ not-false _ (w .4 .left))
-    (w .11 ∙ w .6 .ensures ∙ ap (endsSum (at .products)) (w .5 .ensures))
-    (w .12 ∙ w .8 .ensures ∙ ap (endsSum (at .left)) (w .7 .ensures))
-    (w .13 ∙ w .10 .ensures ∙ ap (endsSum (at .right)) (w .9 .ensures)))
+    (w .9 ∙ w .6 .ensures ∙ ap (endsSum (at .products)) (w .5 .ensures))
+    (w .10 ∙ w .7 .ensures)
+    (w .11 ∙ w .8 .ensures))
     (λ w. rw (w .1, w .2, w .3) (crossed-skip _ _ _ _ _ _ _ _ (at .inv) f (w .0 .left)))
     (c .if1 .came)
 
-magnitude-requires : tie.Need-magnitude-requires Inv-loop μ-loop
-magnitude-requires c κs = let test = c .before in squared-sign _ _ _ _ _ (test .before .loop .inv .first) (test .loop-test .left)
+rounded-up-requires : tie.Need-rounded-up-requires Inv-loop μ-loop
+rounded-up-requires c κs = squared-eight _ _ _ _ _ (c .before .before .loop .inv .first)
 
-magnitude-requires-2 : tie.Need-magnitude-requires-2 Inv-loop μ-loop
-magnitude-requires-2 c κs = let test = c .before .before in squared-sign _ _ _ _ _ (test .before .loop .inv .second) (test .loop-test .left)
+rounded-up-requires-2 : tie.Need-rounded-up-requires-2 Inv-loop μ-loop
+rounded-up-requires-2 c κs = squared-eight _ _ _ _ _ (c .before .before .before .loop .inv .second)
 
 returns-2 : tie.Need-returns-2 Inv-loop μ-loop
 returns-2 c =
@@ -112,7 +106,7 @@ returns-2 c =
     let kept = left .before in
     let test = kept .before in
     c .sum .ensures
-    ∙ ap₂ sumOf (kept .kept .ensures) (root .around-root .ensures ∙ ap₂ aroundRoot (left .magnitude .ensures) (right .magnitude2 .ensures))
+    ∙ ap₂ sumOf (kept .kept .ensures) (root .around-root .ensures ∙ ap₂ aroundRoot (left .rounded-up .ensures) (right .rounded-up2 .ensures))
     ∙ crossed-end _ _ _ _ _ _ _ _ (test .before .loop .inv) (test .loop-test .left)
 
 pub cross-spec : {M : Type 1} → statement M
@@ -128,16 +122,14 @@ cross-spec =
     returns
     slopes-product-requires
     ends-sum-requires
-    ends-square-requires
-    ends-sum-requires-2
-    ends-square-requires-2
-    ends-sum-requires-3
+    with-requires
+    with-requires-2
     add-a
     loop-less
     loop-again
     (λ c κs. tt)
-    magnitude-requires
-    magnitude-requires-2
+    rounded-up-requires
+    rounded-up-requires-2
     (λ c κs. tt)
     (λ c κs. tt)
     returns-2)

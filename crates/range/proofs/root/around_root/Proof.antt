@@ -3,7 +3,7 @@ use borrow.Author.Needs.{needs}
 use mathlib.Core.Path.{sym}
 use native.Mathlib.Omega.{arith}
 use native.Mathlib.Nat.{zero-mul, mul-zero}
-use Rattle.range.proofs.Squares.{around-over, around-none, around-made, minus-fits, product-above, product-within, root-over}
+use Rattle.range.proofs.Roots.{around-over, around-none, around-made, minus-fits, product-above, product-within, root-over}
 use Rattle.range.proofs.root.around_root.Statement.{statement}
 use Rattle.range.proofs.root.around_root.Tie as tie
 

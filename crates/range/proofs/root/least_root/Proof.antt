@@ -2,7 +2,7 @@
 use borrow.Author.Needs.{needs}
 use Prim.Native.Nat.{_≤_, _*_}
 use native.Mathlib.Omega.{arith}
-use Rattle.range.proofs.Squares.{not-zero, least-square, product-fits}
+use Rattle.range.proofs.Roots.{not-zero, least-square, product-fits}
 use Rattle.range.proofs.root.least_root.Statement.{statement}
 use Rattle.range.proofs.root.least_root.Tie as tie
 

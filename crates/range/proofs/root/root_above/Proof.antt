@@ -2,7 +2,7 @@
 use borrow.Author.Needs.{needs}
 use Prim.Native.Nat.{_≤_, _<_, _-_}
 use native.Mathlib.Omega.{arith}
-use Rattle.range.proofs.Squares.{product-fits}
+use Rattle.range.proofs.Roots.{product-fits}
 use Rattle.exact.proofs.Sqrt.{root-lt}
 use Rattle.range.proofs.root.root_above.Statement.{statement}
 use Rattle.range.proofs.root.root_above.Tie as tie

@@ -31,7 +31,7 @@ least-square x r p h k =
     (ceil-root x)
 
 -- ---- from −b to b
-abbrev aroundOf : ℕ → Range
+abbrev pub aroundOf : ℕ → Range
 aroundOf b = fromTo (negℤ (pos b)) (pos b)
 
 pub around-kept : (b : ℕ) → b ≤ 2000000000 → kept (aroundOf b) ≡ aroundOf b
