@@ -19,7 +19,7 @@ import sys
 from pathlib import Path
 
 import dead_lines
-from errors import ERRORS, STEPS, uncounted
+from errors import ERRORS, STEPS, SquaresRoundedEachInCross, SquaresRoundedEachInSq, uncounted
 from figures import FIGURES, TIDIED
 from generate import box_text, case
 from orders import ORDERS, cases, orders_of
@@ -61,6 +61,8 @@ RULES = [
     "join by hull", "join by sum, sets overlap", "join by sum, a set is empty",
     "Sq, one factor", "Sq, more factors",
     "Cross, one factor", "Cross, more factors, root above 0", "Cross, more factors, root 0",
+    "one rounding differs in Sq", "one rounding differs in Cross",
+    "accepted where rounding each square in Sq gives 12", "accepted where rounding each square in Cross gives 12",
     "printed: 1 factor", "printed: 8 factors", "printed: 64 codelist lines", "printed: empty bent set",
     "printed: full bend is not the bend",
     "exact: value inside its range", "exact: first derivatives inside the slopes",
@@ -102,7 +104,9 @@ class Comparison(Tally):
                 complaint += self.exact_complaint(outcome, rng)
         else:
             complaint += self.note_orders(text, outcome.answer)
-        self.try_errors(text, outcome, ours)
+        if comes_to_lines(outcome):
+            self.try_errors(text, ours)
+            complaint += self.rounding_complaint(text, outcome)
         self.judge(name, text, complaint)
         return outcome
 
@@ -132,10 +136,24 @@ class Comparison(Tally):
         if result.full != result.bend:
             self.note("printed: full bend is not the bend")
 
-    def try_errors(self, text, outcome, ours):
-        """Which wrong rules this input tells from the right ones; only inputs that come to rating can."""
-        if isinstance(outcome.answer, Refusal) and outcome.answer.number not in (11, 12):
-            return
+    def rounding_complaint(self, text, outcome):
+        """02, request 2: whether rounding each square would give something else. Then it must be wider, or refused with 12."""
+        if outcome.sheet.factors == 1:
+            return ""
+        complaint = ""
+        for where, rules in (("Sq", SquaresRoundedEachInSq), ("Cross", SquaresRoundedEachInCross)):
+            each = run(text, rules).answer
+            if each == outcome.answer:
+                continue
+            self.note(f"one rounding differs in {where}")
+            if isinstance(outcome.answer, Result) and isinstance(each, Refusal) and each.number == 12:
+                self.note(f"accepted where rounding each square in {where} gives 12")
+            elif not narrower(outcome.answer, each):
+                complaint += f"--- not narrower than with each square rounded in {where}\n{printed(each).decode()}"
+        return complaint
+
+    def try_errors(self, text, ours):
+        """Which wrong rules this input tells from the right ones."""
         for step in self.passing:
             if printed(run(text, uncounted(step)).answer) != ours:
                 self.note(f"12 by {step} alone")
@@ -148,6 +166,19 @@ class Comparison(Tally):
             counts = [self.met[order] for order in ORDERS if order.split(":")[0] == kind]
             print(f"{min(counts):9}  {kind}: the least often met of {len(counts)}")
         print(f"{self.given_up:9}  points given up: the fractions grew too long")
+
+
+def comes_to_lines(outcome):
+    """Whether the ranges were accepted, so that an operation decides the answer."""
+    return isinstance(outcome.answer, Result) or outcome.answer.number in (11, 12)
+
+
+def narrower(answer, wider):
+    """Whether a result has the same value, slopes and sets as a wider one, and bends inside its bends; a refusal, whether it comes no earlier."""
+    if isinstance(answer, Refusal) or isinstance(wider, Refusal):
+        return isinstance(wider, Refusal) and wider.number == 12 and answer.place >= wider.place
+    inside = all(theirs.low <= ours.low and ours.high <= theirs.high for ours, theirs in ((answer.bend, wider.bend), (answer.full, wider.full)))
+    return inside and answer[:4] == wider[:4]
 
 
 def inputs(seed, count):

@@ -1,8 +1,8 @@
 """Wrong rules, each in the place of a right one: the comparison has to tell them all from the right ones.
 
 Of rating, the first five are the errors that 01 names at its end, then come the results "From the buyer" wants turned down, then other
-readings of sentences that decide a result. Those of tidying (02, request 1) are near misses of what is used, what is kept and how it is
-renumbered.
+readings of sentences that decide a result, and near misses of 02's request 2, the sum of squares. Those of tidying (request 1) are near misses
+of what is used, what is kept and how it is renumbered.
 """
 from reference.outcome import Refused, refuse
 from reference.ranges import LIMIT, UNIT, ZERO, PastLimit, Range
@@ -107,10 +107,48 @@ class ProductsRoundedOnce(Rules):
         return Range(self.down(sum(map(min, ends)), UNIT), self.up(sum(map(max, ends)), UNIT))
 
 
-class SquaresRoundedOnce(Rules):
-    """The sum of the squares rounded once, not each square (a later request)."""
+class SquaresRoundedEach(Rules):
+    """Each square rounded up, and the rounded ones added (the rule before request 2)."""
     def squares(self, slopes, over):
-        return self.up(sum(max(slopes[a].low ** 2, slopes[a].high ** 2) for a in over), UNIT)
+        return sum(self.up(square, UNIT) for square in self.largest_squares(slopes, over))
+
+
+class SquaresRoundedEachInSq(Rules):
+    """Each square rounded up in Sq, and their sum in Cross."""
+    def sq(self, slopes, over, step):
+        return SquaresRoundedEach(self.factors).sq(slopes, over, step)
+
+
+class SquaresRoundedEachInCross(Rules):
+    """Each square rounded up in Cross, and their sum in Sq."""
+    def beta(self, g, h, over):
+        return SquaresRoundedEach(self.factors).beta(g, h, over)
+
+
+class SquaresOfHighEnds(Rules):
+    """The squares of the high ends taken for the largest ones."""
+    def largest_squares(self, slopes, over):
+        return [slopes[a].high ** 2 for a in over]
+
+
+class SquaresRoundedDown(Rules):
+    """The exact sum of the squares rounded down."""
+    def squares(self, slopes, over):
+        return self.down(sum(self.largest_squares(slopes, over)), UNIT)
+
+
+class RestsForgotten(Rules):
+    """What the squares leave when each is divided by 10,000 taken for one unit at the most."""
+    def squares(self, slopes, over):
+        squares = self.largest_squares(slopes, over)
+        return sum(square // UNIT for square in squares) + any(square % UNIT for square in squares)
+
+
+class RootOfExactSums(Rules):
+    """Cross's root taken of the exact sums of squares, rounded only then."""
+    def beta(self, g, h, over):
+        exact = sum(self.largest_squares(g, over)) * sum(self.largest_squares(h, over))
+        return self.up(self.root_up(exact), UNIT)
 
 
 class SquaresInCrossCount(Rules):
@@ -165,7 +203,9 @@ class ZerothPowerOne(Rules):
 ERRORS = [
     TowardZero, SquareByEnds, HullOfOverlap, BendForFull, RootDown,
     WholeLimit, FirstOperationCopied, EarlyRefusal, InventedPlace,
-    ExactConstant, LinesOnly, ProductsRoundedOnce, SquaresRoundedOnce, SquaresInCrossCount, SquareForProduct, ProductForSquare,
+    ExactConstant, LinesOnly, ProductsRoundedOnce, SquaresInCrossCount, SquareForProduct, ProductForSquare,
+    SquaresRoundedEach, SquaresRoundedEachInSq, SquaresRoundedEachInCross, SquaresOfHighEnds, SquaresRoundedDown, RestsForgotten,
+    RootOfExactSums,
     NoLift, ZeroInHull, BentSetKept, ZerothPowerOne,
 ]
 

@@ -1,4 +1,4 @@
-"""The figures and edges of paper 01 as inputs of `rate` with the whole text it must print; inputs whose sheets are tidied, with the tidied sheet.
+"""The figures and edges of the papers as inputs of `rate` with the whole text it must print; inputs whose sheets are tidied, with the tidied sheet.
 
 In both, `;` stands for byte 10 and a blank for the tab. Where 01 gives a part of a result only, the other lines follow from its table.
 """
@@ -113,9 +113,6 @@ READINGS = [
     ("box number with leading zero", "factors 1;inv 1;box;01 2;", "refused 8 0;"),
     ("lowest factor first", "factors 2;add 1 2;box;0 2000000001;1 0;", "refused 9 1;"),
     ("ranges inside a formula count", "factors 1;mulc 1 5000000;inv 2;box;2000000 2000000;", "refused 12 3;"),
-    ("each product of Cross is rounded",
-     "factors 2;mulc 1 1;mulc 2 1;add 3 4;mulc 1 5000;mulc 2 5000;add 6 7;mul 5 8;box;0 0;0 0;",
-     "value 0 0;slope 1 0 0;slope 2 0 0;depends 1 2;bent 1 2;bend -100 102;full -100 102;"),
     ("the sums of Cross do not count", "factors 2;mulc 1 50000000;mulc 2 100;mul 3 4;box;0 0;0 0;",
      "value 0 0;slope 1 0 0;slope 2 0 0;depends 1 2;bent 1 2;bend -500000 500000;full -500000 500000;"),
     ("a line times itself is no second power", "factors 1;mul 1 1;box;-10000 20000;",
@@ -123,6 +120,28 @@ READINGS = [
     ("Sq over one factor is a second power", "factors 1;pow 1 2;pow 2 2;box;-10000 20000;",
      "value 0 160000;slope 1 -160000 320000;depends 1;bent 1;bend 0 480000;full 0 480000;"),
     ("the whole sheet counts, used or not", "factors 1;inv 1;addc 1 0;box;0 10000;", "refused 11 2;"),
+]
+
+
+# 02, request 2: the largest squares are added exactly, and their sum is divided and rounded up once.
+ALL_EIGHT = "add 1 2;" + "".join(f"add {line} {factor};" for line, factor in zip(range(9, 15), range(3, 9)))
+SQUARES = [
+    # the products are rounded one by one all the same, and the root is that of the two rounded sums; each square rounded: -100 to 102
+    ("rounded once in Cross", "factors 2;mulc 1 1;mulc 2 1;add 3 4;mulc 1 5000;mulc 2 5000;add 6 7;mul 5 8;box;0 0;0 0;",
+     "value 0 0;slope 1 0 0;slope 2 0 0;depends 1 2;bent 1 2;bend -71 73;full -71 73;"),
+    # each square rounded: 0 to 40032
+    ("rounded once in Sq", f"factors 8;{ALL_EIGHT}mulc 15 5001;pow 16 2;box;" + "0 10000;" * 8,
+     "value 0 160065;" + "".join(f"slope {a} 0 40018;" for a in range(1, 9)) + "depends 1 2 3 4 5 6 7 8;bent 1 2 3 4 5 6 7 8;"
+     "bend 0 40018;full 0 40018;"),
+    # each square rounded, the sum is 2000000001: 12 at line 6, and at line 11
+    ("Sq at the limit", "factors 2;mulc 1 3001771;mulc 2 3315022;add 3 4;inv 5;box;2000000 2000000;2000000 2000000;",
+     "value 0 1;slope 1 -301 0;slope 2 -332 0;depends 1 2;bent 1 2;bend 0 40;full 0 40;"),
+    ("Cross at the limit",
+     "factors 4;mulc 1 3001771;mulc 2 3315022;add 5 6;mulc 3 3001771;mulc 4 3315022;add 8 9;mul 7 10;box;0 0;0 0;0 0;0 0;",
+     "value 0 0;slope 1 0 0;slope 2 0 0;slope 3 0 0;slope 4 0 0;depends 1 2 3 4;bent 1 2 3 4;"
+     "bend -2000000000 2000000000;full -2000000000 2000000000;"),
+    ("Sq a unit past the limit", "factors 2;mulc 1 3002524;mulc 2 3314340;add 3 4;inv 5;box;2000000 2000000;2000000 2000000;",
+     "refused 12 6;"),
 ]
 
 
@@ -176,7 +195,7 @@ ALONE = [
     ("inv.Sq.sum", "factors 2;add 1 2;mulc 3 4000000;addc 4 100000000;inv 5;box;0 0;0 0;", "refused 12 6;"),
 ]
 
-FIGURES = [(name, text(given), text(expected)) for name, given, expected in STARRED + PRINTED + EDGES + READINGS + ALONE]
+FIGURES = [(name, text(given), text(expected)) for name, given, expected in STARRED + PRINTED + EDGES + READINGS + SQUARES + ALONE]
 
 LONGEST = "factors 1;" + "".join(f"addc {k} -2000000000;" for k in range(1, 64))
 

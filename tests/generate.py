@@ -1,4 +1,6 @@
 """Random inputs for `rate`: accepted ones, ones at the brink of a refusal, and damaged ones."""
+from math import isqrt
+
 from reference.outcome import Refused
 from reference.ranges import LIMIT, UNIT, Range
 from reference.rating import Result, Rules
@@ -285,6 +287,48 @@ def at_brink(rng, sheet, ranges):
     return with_number(rng.choice((good, bad)))
 
 
+def with_squares(rng, count, total):
+    """So many numbers of either sign whose squares add up to `total`, or to less than a unit below it."""
+    left = UNIT
+    while left >= UNIT:
+        numbers, left = [], total
+        for _ in range(count - 1):
+            numbers.append(rng.randint(1, isqrt(left)))
+            left -= numbers[-1] ** 2
+        numbers.append(isqrt(left))
+        left -= numbers[-1] ** 2
+    return [rng.choice((-1, 1)) * number for number in numbers]
+
+
+def squares_at_limit(rng):
+    """Slopes whose squares add up to the limit, divided and rounded up once, or to a unit more: in Sq of an inverse, in twice the Sq of a
+    square, in both sums of Cross."""
+    operations = []
+    total = UNIT * (LIMIT + rng.choice((0, 0, 1)))
+    last = rng.choice(("inv", "pow", "mul"))
+    counts = [rng.randint(2, 4), rng.randint(2, 4)] if last == "mul" else [rng.randint(2, 8)]
+    factors = sum(counts)
+
+    def append(name, *numbers):
+        operations.append(Operation(name, numbers))
+        return factors + len(operations)
+
+    def slopes(first, count):
+        line = None
+        for a, slope in enumerate(with_squares(rng, count, total // 2 if last == "pow" else total), first):
+            term = append("mulc", a, slope)
+            line = term if line is None else append("add", line, term)
+        return line
+    line = slopes(1, counts[0])
+    if last == "mul":
+        append("mul", line, slopes(1 + counts[0], counts[1]))
+    elif last == "pow":
+        append("pow", line, 2)
+    else:
+        append("inv", append("addc", line, rng.choice((-1, 1)) * rng.randint(UNIT, LIMIT)))
+    return input_text(Sheet(factors, tuple(operations)), [Range(0, 0)] * factors)
+
+
 def misplaced(rng):
     """One field of an accepted input replaced by one that is wrong, or nearly so."""
     growing = small(rng)
@@ -391,8 +435,8 @@ def long(rng):
 
 
 KINDS = [
-    (grown, 26), (blind, 7), (sums, 12), (overreaching, 8), (scaled, 7), (brink, 6), (prescribed_brink, 12), (misplaced, 9), (damaged, 6),
-    (boxes, 6), (long, 2),
+    (grown, 26), (blind, 7), (sums, 12), (overreaching, 8), (scaled, 7), (brink, 6), (prescribed_brink, 12), (squares_at_limit, 2),
+    (misplaced, 9), (damaged, 6), (boxes, 6), (long, 2),
 ]
 
 

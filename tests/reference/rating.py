@@ -1,4 +1,4 @@
-"""01, "Sets and bends" and refusals 8 to 12. Factors are counted from 0 here, and from 1 in refusals and in print."""
+"""01, "Sets and bends" and refusals 8 to 12, with request 2 of 02. Factors are counted from 0 here, and from 1 in refusals and in print."""
 from typing import NamedTuple
 
 from .outcome import Refusal, Refused, refuse, unnoted
@@ -46,9 +46,12 @@ class Rules(Arithmetic):
         union = a_bent | b_bent
         return self.sum(self.lift(a, a_bent, union), self.lift(b, b_bent, union), step)
 
+    def largest_squares(self, slopes, over):
+        return [max(slopes[a].low ** 2, slopes[a].high ** 2) for a in over]
+
     def squares(self, slopes, over):
-        """"the sum of the largest squares, each divided by 10,000 and rounded up": no step of its own."""
-        return sum(self.up(max(slopes[a].low ** 2, slopes[a].high ** 2), UNIT) for a in over)
+        """"the exact sum of the largest squares, divided by 10,000 and rounded up a single time" (02, request 2): no step of its own."""
+        return self.up(sum(self.largest_squares(slopes, over)), UNIT)
 
     def sq(self, slopes, over, step):
         if len(over) == 1:
@@ -57,6 +60,10 @@ class Rules(Arithmetic):
             return self.power(slopes[a], 2, step + ".one")
         self.note("Sq, more factors")
         return self.kept(Range(0, self.squares(slopes, over)), step + ".sum")
+
+    def beta(self, g, h, over):
+        """"the square root, rounded up, of the product of the two sums used in Sq", which are rounded already."""
+        return self.root_up(self.squares(g, over) * self.squares(h, over))
 
     def products(self, g, h, over):
         """"the sum of the products", each rounded: no step of its own."""
@@ -68,7 +75,7 @@ class Rules(Arithmetic):
             self.note("Cross, one factor")
             (a,) = over
             return self.multiple(2, self.product(g[a], h[a], "mul.Cross.one.product"), "mul.Cross.one")
-        beta = self.root_up(self.squares(g, over) * self.squares(h, over))
+        beta = self.beta(g, h, over)
         self.note("Cross, more factors, root above 0" if beta else "Cross, more factors, root 0")
         around = self.kept(Range(-beta, beta), "mul.Cross.root")
         products = self.kept(self.products(g, h, over), "mul.Cross.products")
