@@ -1,7 +1,7 @@
-/* The rules of paper 01 in plain C, unverified and written for speed: what the proved engine is timed against.
+/* The rules of paper 01, with request 2 of 02, in plain C, unverified and written for speed: what the proved engine is timed against.
    reference < INPUT prints what `rate` prints; reference N < INPUT loads once, rates N times and prints the last result.
 
-   Ends of ranges are within 2,000,000,000 units, so a product of two fits 64 bits; only the product under Cross's root needs more.
+   Ends of ranges are within 2,000,000,000 units, so a product of two fits 64 bits; only the product under Cross's root and a sum of squares may need more.
    The two sets of a line do not depend on the ranges: loading works them out, and slopes outside depends-on sets stay 0. */
 #include <math.h>
 #include <stdint.h>
@@ -116,13 +116,14 @@ static inline Range join(Range a, unsigned a_bent, Range b, unsigned b_bent) {
     return sum(lift(a, a_bent, both), lift(b, b_bent, both));
 }
 
+/* the exact sum, divided and rounded up once; slopes have to be near the limit for it to pass 64 bits, where a division is slow */
 static inline int64_t squares(const Range *slopes, unsigned over) {
-    int64_t total = 0;
+    unsigned __int128 total = UNIT - 1;
     EACH(a, over) {
         int64_t most = greater(-slopes[a].low, slopes[a].high);
-        total += up(most * most);
+        total += (unsigned __int128)(most * most);
     }
-    return total;
+    return total >> 64 ? (int64_t)(total / UNIT) : (int64_t)((uint64_t)total / UNIT);
 }
 
 static inline Range square_sum(const Range *slopes, unsigned over) {
