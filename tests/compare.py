@@ -2,8 +2,9 @@
 """Compares the programs `rate` and `tidy` with the papers' rules over unlimited whole numbers and exact fractions (tests/reference).
 
 tests/compare.py --binary PATH [--tidy PATH [--tidy-into PATH]] [--seed N] [--count N] [--dead-lines N]
-    `rate`: the figures of 01, the examples, inputs that two refusals fit, and random ones: every printed byte; for a share of the accepted
-    random ones also the exact premium and its derivatives, as fractions, at a point inside the ranges
+    `rate`: the figures of the papers, the examples, inputs that two refusals fit, and random ones: every printed byte; the bends beside those
+    with each square rounded (02, request 2), which must be no narrower; for a share of the accepted random ones also the exact premium and its
+    derivatives, as fractions, at a point inside the ranges
     `tidy`: the sheets of all these, and sheets with dead lines put in (dead_lines.py): every printed byte, and `rate` of the tidied sheet
     `tidy_into`: a share of them, with buffers that are too short, just long enough and longer: the outcome and every byte of the buffer
 tests/compare.py --self-test VECTORS [--program tidy]
