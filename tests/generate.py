@@ -288,15 +288,12 @@ def at_brink(rng, sheet, ranges):
 
 
 def with_squares(rng, count, total):
-    """So many numbers of either sign whose squares add up to `total`, or to less than a unit below it."""
-    left = UNIT
-    while left >= UNIT:
-        numbers, left = [], total
-        for _ in range(count - 1):
-            numbers.append(rng.randint(1, isqrt(left)))
-            left -= numbers[-1] ** 2
-        numbers.append(isqrt(left))
-        left -= numbers[-1] ** 2
+    """So many numbers of either sign whose squares add up to `total`, or to less than a unit below it; none is 0."""
+    numbers = []
+    while total - sum(number ** 2 for number in numbers) >= UNIT:
+        numbers = [rng.randint(1, isqrt(total // count)) for _ in range(count - 1)]
+        numbers.append(isqrt(total - sum(number ** 2 for number in numbers)))
+    rng.shuffle(numbers)
     return [rng.choice((-1, 1)) * number for number in numbers]
 
 
