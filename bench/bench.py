@@ -102,7 +102,8 @@ def shape(sheet):
 
 
 def measure(engine, plain, sheets, same_rules):
-    """For each sheet the nanoseconds of the engine and of the C program, and their ratios. All run in turn: a slow minute hits all alike."""
+    """For each sheet the nanoseconds of the engine and of the other program, and their ratios. All run in turn: a slow minute hits all alike.
+    Programs of the same rules must print the same."""
     pairs = [(Timed(engine, sheet), Timed(plain, sheet)) for sheet in sheets]
     for _ in range(ROUNDS):
         for ours, theirs in pairs:

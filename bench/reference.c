@@ -1,7 +1,8 @@
 /* The rules of paper 01, with request 2 of 02, in plain C, unverified and written for speed: what the proved engine is timed against.
    reference < INPUT prints what `rate` prints; reference N < INPUT loads once, rates N times and prints the last result.
 
-   Ends of ranges are within 2,000,000,000 units, so a product of two fits 64 bits; only the product under Cross's root and a sum of squares may need more.
+   Ends of ranges are within 2,000,000,000 units, so a product of two fits 64 bits; only a sum of squares and the product under Cross's root may
+   need more.
    The two sets of a line do not depend on the ranges: loading works them out, and slopes outside depends-on sets stay 0. */
 #include <math.h>
 #include <stdint.h>
