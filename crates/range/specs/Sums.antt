@@ -67,7 +67,7 @@ productsOf s g h = cond (validOver s g && validOver s h) (kept (endsProducts s g
 unfoldable pub largestSquare : Range → ℤ
 largestSquare r = greaterOf (r .low *ℤ r .low) (r .high *ℤ r .high)
 
--- 02, request 2: the exact sum of the largest squares, divided by 10,000 and rounded up a single time.
+-- 02, request 2: "the exact sum of the largest squares, divided by 10,000 and rounded up a single time".
 unfoldable pub squareSum : ℕ → List Range → ℤ
 squareSum s g = ceilDiv (sumOverℤ s (λ a. largestSquare (at g a))) 10000
 
