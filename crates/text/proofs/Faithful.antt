@@ -9,13 +9,13 @@ use Rattle.engine.specs.declared.Outcome.the-variants.{Accepted}
 use Rattle.engine.specs.declared.Rating.{Rating}
 use Rattle.engine.specs.declared.Refusal.{Refusal}
 use Rattle.engine.specs.Engine.{ratedOf}
+use Rattle.engine.proofs.Validity.{Valid, accepted-valid}
 use Rattle.writer.specs.Texts.{refusedText}
 use Rattle.text.specs.Output.{value, depends, bent, bend, full, limitsText, refusalText}
 use Rattle.text.specs.Answer.{unlessRefused, ratingText}
 use Rattle.text.specs.Faithful.{Same, Faithful}
 use Rattle.text.proofs.Lengths.{answer-whole}
 use Rattle.text.proofs.Parsing.{range-inv, slopes-inv, set-inv}
-use Rattle.text.proofs.Validity.{Valid, accepted-valid}
 
 -- piece by piece
 limits-inv : (n : ℕ) (k l : Limits) → Valid k → Valid l → limitsText n k ≡ limitsText n l → Same n k l

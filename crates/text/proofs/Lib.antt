@@ -5,5 +5,4 @@ pub mod Members
 pub mod Answering
 pub mod Lengths
 pub mod Parsing
-pub mod Validity
 pub mod Faithful
