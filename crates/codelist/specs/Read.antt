@@ -7,8 +7,10 @@ use lib.ListN.{length, drop}
 use Rattle.codelist.specs.Text.{TextLine}
 use Rattle.codelist.specs.Text.{Add, Mul, AddC, MulC, Pow, Inv}
 use Rattle.codelist.specs.declared.Numeral.{Numeral}
+use Rattle.codelist.specs.declared.NumeralRead.{NumeralRead}
+use Rattle.codelist.specs.declared.NumeralRead.the-variants as numeralRead
 use Rattle.codelist.specs.declared.PairRead.{PairRead}
-use Rattle.codelist.specs.declared.PairRead.the-variants.{Good, Bad}
+use Rattle.codelist.specs.declared.PairRead.the-variants as pairRead
 use Rattle.codelist.specs.declared.lines.Word.{Word}
 use Rattle.codelist.specs.declared.lines.Word.the-variants as word
 use Rattle.codelist.specs.Text.{factors→, add→, mul→, addc→, mulc→, pow→, inv→}
@@ -86,14 +88,19 @@ keyword s =
 unfoldable pub pair : List ℕ → Read (Numeral × Numeral)
 pair s = next (field 9 s) (λ i t. next (field 10 t) (λ x u. good (i, x) u))
 
--- The same at a place of the text s, with the place after the line. What is left of s there tells it by its length. Past the end of s
--- nothing is left, so that no pair stands there.
-abbrev pub placed : List ℕ → Read (Numeral × Numeral) → PairRead
-placed s (good p t) = Good (p .0) (p .1) (length s - length t)
-placed s bad = Bad
+-- What was read at a place of the text s, with the place after it: what is left of s there tells it by its length. Past the end of s
+-- nothing is left, so that nothing of a form stands there.
+abbrev pub placed : {A B : Type 0} → (A → ℕ → B) → B → List ℕ → Read A → B
+placed found none s (good a t) = found a (length s - length t)
+placed found none s bad = none
 
+-- A numeral and the byte e after it, at a place of s
+unfoldable pub fieldFrom : ℕ → List ℕ → ℕ → NumeralRead
+fieldFrom e s at = placed numeralRead.Good numeralRead.Bad s (field e (drop at s))
+
+-- Two numerals, parted by a tab, and the line's end, at a place of s
 unfoldable pub pairFrom : List ℕ → ℕ → PairRead
-pairFrom s at = placed s (pair (drop at s))
+pairFrom s at = placed (λ p. pairRead.Good (p .0) (p .1)) pairRead.Bad s (pair (drop at s))
 
 -- What follows the word of an operation line
 abbrev pub both : (Numeral → Numeral → TextLine) → List ℕ → Read TextLine

@@ -1,14 +1,14 @@
 -- What the code's readers say of the text s that they read: a place is what is left of s there. For private contracts only.
 use Prim.Native.Nat.{ℕ, _≤_}
 use mathlib.Core.List.{List}
-use lib.ListN.{length, drop}
+use lib.ListN.{drop}
 use Rattle.codelist.specs.Text.{TextLine}
 use Rattle.codelist.specs.Text.{Add, Mul, AddC, MulC, Pow, Inv}
 use Rattle.codelist.specs.declared.lines.LineParts.{LineParts}
 use Rattle.codelist.specs.declared.lines.LineRead as o
 use Rattle.codelist.specs.declared.lines.LiteralRead as l
 use Rattle.codelist.specs.declared.Numeral.{Numeral}
-use Rattle.codelist.specs.declared.numerals.NumeralRead as n
+use Rattle.codelist.specs.declared.NumeralRead as n
 use Rattle.codelist.specs.declared.lines.Word.{Word}
 use Rattle.codelist.specs.declared.lines.Word.the-variants as word
 use Rattle.codelist.specs.declared.lines.WordRead as w
@@ -22,11 +22,6 @@ ofLiteral s l.the-variants.Bad = bad
 abbrev pub ofNumeral : List ℕ → n.NumeralRead → Read Numeral
 ofNumeral s (n.the-variants.Good w at) = good w (drop at s)
 ofNumeral s n.the-variants.Bad = bad
-
--- The place after a numeral is in the text, or at its end
-abbrev pub InText : List ℕ → n.NumeralRead → Type 0
-InText s (n.the-variants.Good w at) = at ≤ length s
-InText s n.the-variants.Bad = Unit
 
 abbrev pub ofWord : List ℕ → w.WordRead → Read Word
 ofWord s (w.the-variants.Good k at) = good k (drop at s)

@@ -1,9 +1,8 @@
 // The codelist (01's sheet): bytes become a codelist, or one refusal with its place.
 ghost use mathlib.Core.Path.{_≡_};
 ghost use Rattle.codelist.specs.Codelist.{wellFormedOp, ratable};
-ghost use Rattle.codelist.specs.Read.{pairFrom};
+ghost use Rattle.codelist.specs.Read.{fieldFrom, pairFrom};
 ghost use Rattle.codelist.specs.Load.{numberOf, placeOf, empty, loadOf};
-use numerals::NumeralRead;
 
 mod lines; // lines.rt: the words, the operation lines and the first line of a text
 mod loading; // loading.rt: the conditions on a line, its operation, and the operation lines one after another
@@ -18,6 +17,11 @@ const MOST_LINES: usize = 64;
 const MOST_FACTORS: u64 = 8;
 
 const LIMIT: u64 = 2_000_000_000;
+
+// The bytes that end a numeral's field.
+const TAB: u8 = 9;
+
+const LINE_END: u8 = 10;
 
 // An operation. A reference is the number of a codelist line, from 1; a constant is in units.
 pub enum Op {
@@ -127,18 +131,40 @@ pub struct Numeral {
     pub magnitude: u64,
 }
 
+// What stands at a place of the text: a numeral with the place after it, or none.
+pub enum NumeralRead {
+    Good(Numeral, usize),
+    Bad,
+}
+
 // What stands at a place of the text: two numerals with the place after their line, or none.
 pub enum PairRead {
     Good(Numeral, Numeral, usize),
     Bad,
 }
 
+// A numeral and the byte `end` after it, at a place of the text.
+pub fn field_at(s: &[u8], at: usize, end: u8) -> NumeralRead
+    ensures { λ r. ⌜ r ≡ fieldFrom end (now (s .entry)) at ⌝ }
+{
+    match numerals::numeral_at(s, at) {
+        NumeralRead::Good(w, t) => {
+            if numerals::byte_at(s, t) == numerals::wide(end) {
+                NumeralRead::Good(w, t + 1)
+            } else {
+                NumeralRead::Bad
+            }
+        }
+        NumeralRead::Bad => NumeralRead::Bad,
+    }
+}
+
 // Two numerals, parted by a tab, and the line's end, at a place of the text.
 pub fn pair_at(s: &[u8], at: usize) -> PairRead
     ensures { λ r. ⌜ r ≡ pairFrom (now (s .entry)) at ⌝ }
 {
-    match numerals::field_at(s, at, numerals::TAB) {
-        NumeralRead::Good(i, t) => match numerals::field_at(s, t, numerals::LINE_END) {
+    match field_at(s, at, TAB) {
+        NumeralRead::Good(i, t) => match field_at(s, t, LINE_END) {
             NumeralRead::Good(x, u) => PairRead::Good(i, x, u),
             NumeralRead::Bad => PairRead::Bad,
         },

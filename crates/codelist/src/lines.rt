@@ -3,10 +3,11 @@ ghost use mathlib.Core.Path.{_≡_};
 ghost use lib.ListN.{drop};
 ghost use Rattle.codelist.specs.Read.{_or_, literal, named, keyword, operands, operationLine, firstLine};
 ghost use Rattle.codelist.specs.Views.{ofNumeral, ofLiteral, ofWord, ofLine};
+use super::LINE_END;
 use super::Numeral;
+use super::NumeralRead;
 use super::PairRead;
 use super::numerals;
-use super::numerals::NumeralRead;
 
 // The word that an operation line begins with.
 pub(crate) enum Word {
@@ -87,7 +88,7 @@ fn operands_at(s: &[u8], at: usize, name: Word) -> LineRead
     ensures { λ r. ⌜ ofLine (now (s .entry)) r ≡ operands name (drop at (now (s .entry))) ⌝ }
 {
     if let Word::Inv = name {
-        match numerals::field_at(s, at, numerals::LINE_END) {
+        match super::field_at(s, at, LINE_END) {
             NumeralRead::Good(i, t) => LineRead::Good(
                 LineParts {
                     word: name,
@@ -128,7 +129,7 @@ pub(crate) fn first_line(s: &[u8]) -> NumeralRead
     ensures { λ r. ⌜ ofNumeral (now (s .entry)) r ≡ firstLine (now (s .entry)) ⌝ }
 {
     match literal_at(s, 0, b"factors\t") {
-        LiteralRead::Good(t) => numerals::field_at(s, t, numerals::LINE_END),
+        LiteralRead::Good(t) => super::field_at(s, t, LINE_END),
         LiteralRead::Bad => NumeralRead::Bad,
     }
 }

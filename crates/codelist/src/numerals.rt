@@ -2,26 +2,17 @@
 ghost use mathlib.Core.Path.{_≡_};
 ghost use Prim.Native.Nat.{_<_};
 ghost use lib.ListN.{drop};
-ghost use Rattle.codelist.specs.Read.{peek, digit, digits, positive, numeral, field};
-ghost use Rattle.codelist.specs.Views.{ofNumeral, InText};
+ghost use Rattle.codelist.specs.Read.{peek, digit, digits, positive, numeral};
+ghost use Rattle.codelist.specs.Views.{ofNumeral};
 use super::Numeral;
+use super::NumeralRead;
 
 // Bytes of the text.
-pub(crate) const TAB: u64 = 9;
-
-pub(crate) const LINE_END: u64 = 10;
-
 const MINUS: u64 = 45;
 
 const ZERO: u64 = 48;
 
 const NINE: u64 = 57;
-
-// What stands at a place of the text: a numeral with the place after it, or none.
-pub(crate) enum NumeralRead {
-    Good(Numeral, usize),
-    Bad,
-}
 
 // The byte at a place of the text, and 256 past its end.
 pub(crate) fn byte_at(s: &[u8], at: usize) -> u64
@@ -89,7 +80,7 @@ fn positive_at(s: &[u8], at: usize, negative: bool) -> NumeralRead
 }
 
 // `0`, or digits of which the first is not 0, after a minus at will.
-fn numeral_at(s: &[u8], at: usize) -> NumeralRead
+pub(crate) fn numeral_at(s: &[u8], at: usize) -> NumeralRead
     ensures { λ r. ⌜ ofNumeral (now (s .entry)) r ≡ numeral (drop at (now (s .entry))) ⌝ }
 {
     let b = byte_at(s, at);
@@ -106,24 +97,6 @@ fn numeral_at(s: &[u8], at: usize) -> NumeralRead
         );
     }
     positive_at(s, at, false)
-}
-
-// A numeral and the byte `end` after it.
-pub(crate) fn field_at(s: &[u8], at: usize, end: u64) -> NumeralRead
-    requires { ⌜ end < 256 ⌝ }
-    ensures { λ r. ⌜ ofNumeral (now (s .entry)) r ≡ field end (drop at (now (s .entry))) ⌝ }
-    ensures { λ r. ⌜ InText (now (s .entry)) r ⌝ }
-{
-    match numeral_at(s, at) {
-        NumeralRead::Good(w, t) => {
-            if byte_at(s, t) == end {
-                NumeralRead::Good(w, t + 1)
-            } else {
-                NumeralRead::Bad
-            }
-        }
-        NumeralRead::Bad => NumeralRead::Bad,
-    }
 }
 
 // A byte as a number.

@@ -1,8 +1,10 @@
 -- `lines::first_line` meets its contract: a word, and what follows it.
 use mathlib.Core.Path.{ap, sym, _∙_}
+use lib.Dec.{lit<}
 use borrow.Author.Needs.{needs}
 use Rattle.codelist.specs.Read.{firstLine}
-use Rattle.codelist.specs.Views.{ofLiteral}
+use Rattle.codelist.specs.Views.{ofNumeral, ofLiteral}
+use Rattle.codelist.proofs.Places.{field-seen}
 use Rattle.codelist.proofs.lines.first_line.Statement.{statement}
 use Rattle.codelist.proofs.lines.first_line.Tie as tie
 
@@ -26,7 +28,9 @@ unfolding firstLine
 returns c =
     let m = c .before .before in
     let f = m .before .before in
-    c .field-at .ensures .0 ∙ simp (sym (f .literal-at .ensures) ∙ ap (ofLiteral (f .before .before .before .args .s .now)) (m .t .given .1))
+    let s = f .before .before .before .args .s .now in
+    ap (ofNumeral s) (c .field-at .ensures) ∙ field-seen 10 s _ (lit< tt)
+    ∙ simp (sym (f .literal-at .ensures) ∙ ap (ofLiteral s) (m .t .given .1))
 
 returns-2 : tie.Need-returns-2
 unfolding firstLine

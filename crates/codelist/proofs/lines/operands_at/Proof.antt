@@ -1,15 +1,16 @@
 -- `lines::operands_at` meets its contract: one numeral after inv, two after any other word.
 use Prim.Native.Nat.{ℕ}
 use mathlib.Core.List.{List, [], _∷_}
-use mathlib.Core.Path.{_≡_, refl, ap, sym, _∙_}
+use mathlib.Core.Path.{_≡_, refl, sym, _∙_}
+use lib.Dec.{lit<}
 use types.Run.{OneOf, miss}
 use denote.Enum.Declared.{tagOf}
 use borrow.Author.Needs.{needs}
 use Rattle.codelist.specs.declared.lines.Word.{Word}
 use Rattle.codelist.specs.declared.lines.Word.the-variants as word
 use Rattle.codelist.specs.Read.{good, next, pair, operands}
-use Rattle.codelist.specs.Views.{ofNumeral, binaryOf}
-use Rattle.codelist.proofs.Places.{pair-read, pair-unread}
+use Rattle.codelist.specs.Views.{binaryOf}
+use Rattle.codelist.proofs.Places.{field-read, field-unread, pair-read, pair-unread}
 use Rattle.codelist.proofs.lines.Word as words
 use Rattle.codelist.proofs.lines.operands_at.Statement.{statement}
 use Rattle.codelist.proofs.lines.operands_at.Tie as tie
@@ -51,21 +52,15 @@ unfolding operands
 returns c =
     let m = c .before in
     let f = m .before .before in
-    simp (
-      f .before .enum-told .given .1,
-      sym (f .field-at .ensures .0) ∙ ap (ofNumeral (f .before .before .before .before .args .s .now))
-          (m .i .given .1),
-    )
+    let s = f .before .before .before .before .args .s .now in
+    simp (f .before .enum-told .given .1, field-read 10 s _ _ _ (lit< tt) (sym (f .field-at .ensures) ∙ m .i .given .1))
 
 returns-2 : tie.Need-returns-2
 unfolding operands
 returns-2 c =
     let f = c .before .before in
-    simp (
-      f .before .enum-told .given .1,
-      sym (f .field-at .ensures .0) ∙ ap (ofNumeral (f .before .before .before .before .args .s .now))
-          (c .enum-told2 .given .1),
-    )
+    let s = f .before .before .before .before .args .s .now in
+    simp (f .before .enum-told .given .1, field-unread 10 s _ (lit< tt) (sym (f .field-at .ensures) ∙ c .enum-told2 .given .1))
 
 returns-3 : tie.Need-returns-3
 returns-3 c =
