@@ -1,5 +1,5 @@
 -- Laws of the readers: what stands at a place of the text, and one step of each definition.
-use Prim.Native.Nat.{ℕ, suc, zero, _+_, _-_, _*_, _^_, _≤_, _<_}
+use Prim.Native.Nat.{ℕ, suc, zero, _+_, _-_, _*_, _^_, _≤_, _<_, min}
 use mathlib.Core.Bool.{Bool, true, false, cond, _&&_, false≢true}
 use mathlib.Core.List.{List, [], _∷_}
 use mathlib.Core.Path.{_≡_, refl, subst}
@@ -7,19 +7,19 @@ use native.Mathlib.Decide.{decLt}
 use native.Mathlib.Nat.{le-trans, mul-assoc, mul-le-mul-right, le-mul-of-pos-right, one-le-pow, pow-succ'}
 use native.Mathlib.Numerals.{add-one, sub-one}
 use native.Mathlib.Omega.{arith}
-use lib.Dec.{lit≤, lit<, leb}
-use lib.IntN.{ℤ, pos, negℤ, _-ℤ_, +ℤ-idl}
+use lib.Dec.{lit≤, leb}
+use lib.IntN.{ℤ}
 use lib.ListN.{length, getD, drop, drop-of-length-le}
 use lib.Seq.{drop-cons}
 use lib.Signed.{mag}
 use mir.Facts.{toZ-ofZ}
 use mir.Syntax.{w64}
-use mir.Val.{SFits, toZ, ofZ}
+use mir.Val.{toZ, ofZ}
 use borrow.Author.Tests.{lt-ltb, le-ltb, ne-eqb, eq-eqb, leb-true}
 use Rattle.codelist.specs.declared.Numeral.{Numeral}
 use Rattle.codelist.specs.Read.{peek, rest, digit, digits, literal, good, bad}
-use Rattle.exact.specs.Units.{limit}
 use Rattle.codelist.specs.Conditions.{isBetween}
+use Rattle.codelist.specs.Load.{valueOf, saturated}
 
 pub peek-in : (s : List ℕ) (i : ℕ) → i < length s → peek (drop i s) ≡ getD s i 0
 unfolding peek
@@ -125,13 +125,12 @@ module _ (s w : List ℕ) (at i b c : ℕ) (h : i < length w) (p : b ≡ peek (d
   unfolding literal
   literal-more e = rw (drop-cons w i 0 h, ← p, ← q, eq-eqb b c e, add-one i, ← rest-drop)
 
--- A constant within the limit, with a minus
-pub minus-fits : (m : ℕ) → m ≤ limit → SFits w64 (pos 0 -ℤ pos m)
-minus-fits m h = rw +ℤ-idl (go m h)
-  where
-    go : (n : ℕ) → n ≤ limit → SFits w64 (negℤ (pos n))
-    go zero g = record { sfits = lit< tt }
-    go (suc n) g = record { sfits = omega arith }
+-- An i64 holds the value of a numeral of the form
+pub saturated-few : (w : Numeral) → w .magnitude < 10 ^ 10 → saturated w ≡ valueOf w
+unfolding saturated valueOf
+saturated-few w h =
+    let m : min (w .magnitude) (2 ^ 63 - 1) ≡ w .magnitude = omega arith in
+    rw m
 
 -- A signed number that is written as bits and read back
 pub back : (z : ℤ) → mag z < 2 ^ 63 → toZ w64 (ofZ w64 z) ≡ z

@@ -1,6 +1,6 @@
 -- Loading: the whole codelist, or one refusal. 01, "Refusals that come from the input", 1 to 7, and "Loading: 1 first, then text lines
 -- from the top, within a line in the order 2, 3, 4, 5, 6, 7; a sheet without operations is found last."
-use Prim.Native.Nat.{ℕ, suc, zero, _+_, _-_}
+use Prim.Native.Nat.{ℕ, suc, zero, _+_, _-_, _^_, min}
 use mathlib.Core.Bool.{Bool, cond}
 use mathlib.Core.List.{List, [], _∷_, _++_}
 use lib.Dec.{leb}
@@ -66,6 +66,11 @@ codelistOf n ops = record { factors = n; count = length ops; ops = ops ++ replic
 -- A numeral's value
 unfoldable pub valueOf : Numeral → ℤ
 valueOf w = cond (w .negative) (negℤ (pos (w .magnitude))) (pos (w .magnitude))
+
+-- The same as an i64 holds it: a magnitude above 2 ^ 63 - 1 counts as that one. The text has none, since a numeral has at most ten
+-- digits.
+unfoldable pub saturated : Numeral → ℤ
+saturated w = valueOf (record { negative = w .negative; magnitude = min (w .magnitude) (2 ^ 63 - 1) })
 
 -- The operation of a line that keeps the rules
 abbrev pub opOf : TextLine → Op

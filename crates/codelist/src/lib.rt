@@ -2,7 +2,7 @@
 ghost use mathlib.Core.Path.{_≡_};
 ghost use Rattle.codelist.specs.Codelist.{wellFormedOp, ratable};
 ghost use Rattle.codelist.specs.Read.{fieldFrom, pairFrom};
-ghost use Rattle.codelist.specs.Load.{numberOf, placeOf, empty, loadOf};
+ghost use Rattle.codelist.specs.Load.{numberOf, placeOf, empty, saturated, loadOf};
 
 mod lines; // lines.rt: the words, the operation lines and the first line of a text
 mod loading; // loading.rt: the conditions on a line, its operation, and the operation lines one after another
@@ -17,6 +17,9 @@ const MOST_LINES: usize = 64;
 const MOST_FACTORS: u64 = 8;
 
 const LIMIT: u64 = 2_000_000_000;
+
+// The greatest magnitude that an i64 has with either sign.
+const MOST_VALUE: u64 = 9_223_372_036_854_775_807;
 
 // The bytes that end a numeral's field.
 const TAB: u8 = 9;
@@ -129,6 +132,20 @@ pub struct Loaded {
 pub struct Numeral {
     pub negative: bool,
     pub magnitude: u64,
+}
+
+impl Numeral {
+    // The numeral's value. A magnitude above the greatest one counts as that: no text has it.
+    pub fn value(self) -> i64
+        ensures { λ r. ⌜ r ≡ saturated self ⌝ }
+    {
+        let mut m = self.magnitude;
+        if MOST_VALUE < m {
+            m = MOST_VALUE;
+        }
+        let x = m as i64;
+        if self.negative { -x } else { x }
+    }
 }
 
 // What stands at a place of the text: a numeral with the place after it, or none.

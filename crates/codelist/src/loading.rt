@@ -3,10 +3,9 @@ ghost use mathlib.Core.Path.{_≡_};
 ghost use mathlib.Core.List.{[]};
 ghost use Prim.Native.Nat.{_≤_, _-_};
 ghost use lib.ListN.{drop};
-ghost use Rattle.exact.specs.Units.{limit};
 ghost use Rattle.codelist.specs.Conditions.{isBetween, refersBack, exponentFits, constantFits};
 ghost use Rattle.codelist.specs.Views.{textLine, Fits};
-ghost use Rattle.codelist.specs.Load.{refused, valueOf, opOf, checkedOf, operationLines};
+ghost use Rattle.codelist.specs.Load.{refused, opOf, checkedOf, operationLines};
 use super::Codelist;
 use super::Entry;
 use super::LIMIT;
@@ -80,15 +79,6 @@ fn constant_fits(line: LineParts) -> bool
     }
 }
 
-// A numeral's value.
-fn value(w: Numeral) -> i64
-    requires { ⌜ w .magnitude ≤ limit ⌝ }
-    ensures { λ r. ⌜ r ≡ valueOf w ⌝ }
-{
-    let m = w.magnitude as i64;
-    if w.negative { -m } else { m }
-}
-
 // A numeral that is no greater than 255.
 fn small(w: Numeral) -> u8
     requires { ⌜ w .magnitude ≤ 255 ⌝ }
@@ -109,8 +99,8 @@ fn op_of(line: LineParts) -> Op
     match word {
         Word::Add => Op::Add(i, small(right)),
         Word::Mul => Op::Mul(i, small(right)),
-        Word::AddC => Op::AddC(i, value(right)),
-        Word::MulC => Op::MulC(i, value(right)),
+        Word::AddC => Op::AddC(i, right.value()),
+        Word::MulC => Op::MulC(i, right.value()),
         Word::Pow => Op::Pow(i, small(right)),
         Word::Inv => Op::Inv(i),
     }

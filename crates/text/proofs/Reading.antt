@@ -9,8 +9,10 @@ use lib.IntN.{ℤ, pos}
 use lib.ListN.{length, take, drop, set, replicate, length-set, length-drop, drop-of-length-le}
 use lib.Seq.{take-suc-set}
 use Rattle.codelist.specs.declared.Numeral.{Numeral}
-use Rattle.codelist.specs.Load.{valueOf}
+use Rattle.codelist.specs.Load.{valueOf, saturated}
 use Rattle.codelist.specs.Read.{good, bad, pair}
+use Rattle.codelist.proofs.Laws.{saturated-few}
+use Rattle.codelist.proofs.LineTexts.{pair-sound}
 use Rattle.text.specs.Input.{atEnd, boxLines}
 
 -- With `count` numbers read, at the place `at`: what is left to read is what was to be read at the start
@@ -58,19 +60,22 @@ module _ (s : List ℕ) (from : ℕ) (ends : List ℤ) (count at : ℕ) (g : Goi
       go (suc k) p = sym (unended (drop at s) _ _ (left-some s at h) ∙ rw e)
 
   pub turn : (low high : Numeral) (x y : ℤ) (t : ℕ) → at < length s → count < 16 → pair (drop at s) ≡ good (low, high) (drop t s)
-      → x ≡ valueOf low → y ≡ valueOf high → Going s from (set (set ends count x) (count + 1) y) (count + 2) t
+      → x ≡ saturated low → y ≡ saturated high → Going s from (set (set ends count x) (count + 1) y) (count + 2) t
   unfolding boxLines
-  turn low high x y t h f e p q = go (g .room) (g .few) (g .same)
+  turn low high x y t h f e p q =
+      let n = pair-sound (drop at s) (low, high) (drop t s) e in
+      go (p ∙ saturated-few low (n .left .few)) (q ∙ saturated-few high (n .right .few)) (g .room) (g .few) (g .same)
     where
-      go : (k : ℕ) → count + 2 * k ≡ 16 → boxLines k (take count ends) (drop at s) ≡ boxLines 8 [] (drop from s)
+      go : x ≡ valueOf low → y ≡ valueOf high → (k : ℕ) → count + 2 * k ≡ 16
+          → boxLines k (take count ends) (drop at s) ≡ boxLines 8 [] (drop from s)
           → Going s from (set (set ends count x) (count + 1) y) (count + 2) t
-      go zero m r = absurd (omega arith)
-      go (suc k) m r = record {
+      go v w zero m r = absurd (omega arith)
+      go v w (suc k) m r = record {
         room = k;
         few = omega arith;
         whole = length-set (set ends count x) (count + 1) y ∙ length-set ends count x ∙ g .whole;
         same = ap (λ (l : List ℤ). boxLines k l (drop t s)) (taken ends count x y (omega (arith, g .whole)))
-            ∙ sym (unended (drop at s) _ _ (left-some s at h) ∙ rw (e, p, q)) ∙ r;
+            ∙ sym (unended (drop at s) _ _ (left-some s at h) ∙ rw (e, v, w)) ∙ r;
       }
 
   pub leave-done : length s ≤ at → some (take count ends) ≡ boxLines 8 [] (drop from s)

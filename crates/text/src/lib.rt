@@ -3,16 +3,14 @@
 ghost use mathlib.Core.Path.{_≡_};
 ghost use mathlib.Core.Bool.{true};
 ghost use mathlib.Core.List.{[], _++_};
-ghost use Prim.Native.Nat.{_+_, _≤_, _<_, _^_};
+ghost use Prim.Native.Nat.{_+_, _≤_, _<_};
 ghost use lib.ListN.{length, drop};
-ghost use Rattle.codelist.specs.Load.{valueOf};
 ghost use Rattle.engine.specs.Engine.{ratedOf};
 ghost use Rattle.writer.specs.Lent.{lent, putText};
 ghost use Rattle.text.specs.Input.{isBox, sheetLength, boxLines};
 ghost use Rattle.text.specs.Output.{slope, naturalField, wholeField, rangeFields, slopeLines, setFields, limitsText, refusalText};
 ghost use Rattle.text.specs.Answer.{answerOf, written, ratingText, ratedText};
 ghost use Rattle.text.specs.Boxes.{numbersOf};
-use codelist::Numeral;
 use codelist::PairRead;
 use engine::Engine;
 use engine::Outcome;
@@ -166,15 +164,6 @@ struct Boxes {
     ends: [i64; 16],
 }
 
-// A numeral's value.
-fn value(w: Numeral) -> i64
-    requires { ⌜ w .magnitude < 10 ^ 10 ⌝ }
-    ensures { λ r. ⌜ r ≡ valueOf w ⌝ }
-{
-    let m = w.magnitude as i64;
-    if w.negative { -m } else { m }
-}
-
 // The box lines from a place on.
 fn box_lines(s: &[u8], from: usize) -> Boxes
     ensures { λ r. ⌜ numbersOf r ≡ boxLines 8 [] (drop from (now (s .entry))) ⌝ }
@@ -193,8 +182,8 @@ fn box_lines(s: &[u8], from: usize) -> Boxes
         }
         match codelist::pair_at(s, at) {
             PairRead::Good(low, high, t) => {
-                ends[count] = value(low);
-                ends[count + 1] = value(high);
+                ends[count] = low.value();
+                ends[count + 1] = high.value();
                 count += 2;
                 at = t;
             }

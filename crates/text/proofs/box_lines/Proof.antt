@@ -4,7 +4,6 @@ use mathlib.Core.Path.{sym, _∙_}
 use native.Mathlib.Omega.{arith}
 use mir.Facts.{toZ-ofZ}
 use borrow.Author.Needs.{needs}
-use Rattle.codelist.proofs.LineTexts.{pair-sound}
 use Rattle.codelist.proofs.Places.{pair-read, pair-unread}
 use Rattle.text.proofs.Reading.{Going, start, leave-full, leave-bad, leave-done, turn}
 use Rattle.text.proofs.box_lines.Statement.{statement}
@@ -25,20 +24,6 @@ returns c =
     let a = l .before .before .args in
     let t = c .before .loop-test .taken in
     (leave-full (a .s .now) (a .from) (l .loop .ends) (l .loop .count) (l .loop .at) (l .loop .inv) t (c .if1 .taken), search needs)
-
-value-requires : tie.Need-value-requires Inv-loop μ-loop
-value-requires c κs =
-    let r = c .before in
-    let m = r .before .before in
-    let s = m .before .before .before .before .before .args .s .now in
-    pair-sound _ _ _ (pair-read s _ _ _ _ (sym (m .pair-at .ensures) ∙ r .low .given .1)) .left .few
-
-value-requires-2 : tie.Need-value-requires-2 Inv-loop μ-loop
-value-requires-2 c κs =
-    let r = c .before .before in
-    let m = r .before .before in
-    let s = m .before .before .before .before .before .args .s .now in
-    pair-sound _ _ _ (pair-read s _ _ _ _ (sym (m .pair-at .ensures) ∙ r .low .given .1)) .right .few
 
 loop-again : tie.Need-loop-again Inv-loop μ-loop
 loop-again c =
@@ -81,10 +66,10 @@ box-lines-spec =
     returns
     (λ c κs. search needs)
     (λ c. search needs)
-    value-requires
+    (λ c κs. search needs)
     (λ c. search needs)
     (λ c. search needs)
-    value-requires-2
+    (λ c κs. search needs)
     (λ c. search needs)
     (λ c. search needs)
     (λ c. search needs)

@@ -1,8 +1,7 @@
 -- `loading::op_of` meets its contract: each arm is a case of `opOf`, and its numbers fit.
 use Prim.Native.Nat.{_≤_}
 use mathlib.Core.Path.{_≡_, ap, subst, _∙_}
-use mir.Facts.{toZ-ofZ}
-use mir.Syntax.{w64}
+use native.Mathlib.Omega.{arith}
 use borrow.Author.Needs.{needs}
 use Rattle.codelist.specs.declared.Numeral.{Numeral}
 use Rattle.codelist.specs.declared.Op.the-variants.{AddC, MulC}
@@ -10,6 +9,7 @@ use Rattle.codelist.specs.declared.lines.LineParts.{LineParts}
 use Rattle.codelist.specs.declared.lines.Word.{Word}
 use Rattle.codelist.specs.declared.lines.Word.the-variants as word
 use Rattle.codelist.specs.Views.{binaryOf, textLine, Fits}
+use Rattle.codelist.proofs.Laws.{saturated-few, back}
 use Rattle.codelist.proofs.loading.op_of.Statement.{statement}
 use Rattle.codelist.proofs.loading.op_of.Tie as tie
 
@@ -41,16 +41,6 @@ small-requires-3 c κs =
     let a = c .before .before .before .before .before in
     known (a .args .line) (c .enum-told2 .given .1) (a .pre) .1
 
-value-requires : tie.Need-value-requires
-value-requires c κs =
-    let a = c .before .before .before .before .before in
-    known (a .args .line) (c .enum-told3 .given .1) (a .pre) .1
-
-value-requires-2 : tie.Need-value-requires-2
-value-requires-2 c κs =
-    let a = c .before .before .before .before .before in
-    known (a .args .line) (c .enum-told4 .given .1) (a .pre) .1
-
 small-requires-4 : tie.Need-small-requires-4
 small-requires-4 c κs =
     let a = c .before .before .before .before .before in
@@ -64,15 +54,21 @@ returns-2 c = simp (c .before .enum-told2 .given .1, c .before .before .before .
 
 returns-3 : tie.Need-returns-3
 returns-3 c =
+    let w = c .before .enum-told3 .given .1 in
     let i = c .before .before .before .small in
-    ap (AddC (i .result)) (toZ-ofZ {w = w64} (record { sfits = c .value .ok }) ∙ c .value .ensures)
-    ∙ simp (c .before .enum-told3 .given .1, i .ensures)
+    let a = c .before .before .before .before .before .before in
+    ap (AddC (i .result)) (back _ (c .value .ok) ∙ c .value .ensures
+    ∙ saturated-few _ (omega (arith, known (a .args .line) w (a .pre) .1)))
+    ∙ simp (w, i .ensures)
 
 returns-4 : tie.Need-returns-4
 returns-4 c =
+    let w = c .before .enum-told4 .given .1 in
     let i = c .before .before .before .small in
-    ap (MulC (i .result)) (toZ-ofZ {w = w64} (record { sfits = c .value2 .ok }) ∙ c .value2 .ensures)
-    ∙ simp (c .before .enum-told4 .given .1, i .ensures)
+    let a = c .before .before .before .before .before .before in
+    ap (MulC (i .result)) (back _ (c .value2 .ok) ∙ c .value2 .ensures
+    ∙ saturated-few _ (omega (arith, known (a .args .line) w (a .pre) .1)))
+    ∙ simp (w, i .ensures)
 
 returns-5 : tie.Need-returns-5
 returns-5 c = simp (c .before .enum-told5 .given .1, c .before .before .before .small .ensures, c .small4 .ensures)
@@ -90,9 +86,9 @@ op-of-spec =
     (λ c. search needs)
     small-requires-3
     (λ c. search needs)
-    value-requires
+    (λ c κs. search needs)
     (λ c. search needs)
-    value-requires-2
+    (λ c κs. search needs)
     (λ c. search needs)
     small-requires-4
     (λ c. search needs)
