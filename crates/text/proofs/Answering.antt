@@ -21,7 +21,7 @@ use Rattle.engine.specs.declared.Refusal as refusal
 use Rattle.engine.specs.declared.Refusal.{Refusal}
 use Rattle.engine.specs.Engine as engine
 use Rattle.engine.specs.Engine.{emptyEngine, loadedOf}
-use Rattle.text.specs.Input.{sheetLength, sheetOf, boxOf, boxLines}
+use Rattle.text.specs.Input.{box, sheetLength, sheetOf, afterLine, boxLines}
 use Rattle.text.specs.Output.{refusalText}
 use Rattle.text.specs.Answer.{answerOf, ratedText, loadingText}
 
@@ -31,7 +31,7 @@ too-long s h = simp (lt-leb (length s) 8192 h)
 
 -- What the code's calls gave of the input s: where its sheet ends, an empty engine, and the loading of what stands before that end
 module _
-    (s : List ℕ) (end : ℕ) (p : end ≡ sheetLength true s) (o : Engine) (n : o ≡ emptyEngine)
+    (s : List ℕ) (end : ℕ) (p : end ≡ sheetLength box true s) (o : Engine) (n : o ≡ emptyEngine)
     (l : Loading) (e : l ≡ loadedOf o (take end s)) where
   -- an accepted codelist has at most eight factors
   pub few-factors : l .outcome ≡ Accepted → l .engine .codelist .factors ≤ 8
@@ -47,8 +47,10 @@ module _
 
   module _ (h : length s ≤ 8192) where
     answered : answerOf s ≡ loadingText l (drop (end + 4) s)
-    unfolding answerOf sheetOf boxOf
-    answered = simp (le-leb (length s) 8192 h, ← p, ← n, ← e)
+    unfolding answerOf sheetOf afterLine
+    answered =
+        let f : end + 3 + 1 ≡ end + 4 = omega arith in
+        simp (le-leb (length s) 8192 h, ← p, ← n, ← e, f)
 
     pub loaded : (xs : Option (List ℤ)) → l .outcome ≡ Accepted → xs ≡ boxLines 8 [] (drop (end + 4) s)
         → ratedText (l .engine) xs ≡ answerOf s

@@ -23,7 +23,7 @@ use Rattle.engine.specs.declared.Refusal.the-variants.{Load}
 use Rattle.engine.specs.Engine.{numberOf, placeOf, emptyEngine, loadedOf, ratedOf}
 use Rattle.writer.proofs.Digits.{decimal-digit}
 use Rattle.writer.proofs.Lengths.{refused-length}
-use Rattle.text.specs.Input.{sheetLength, sheetOf, boxOf, boxLines}
+use Rattle.text.specs.Input.{box, sheetLength, sheetOf, afterLine, boxLines}
 use Rattle.text.specs.Output.{naturalField, wholeField, rangeFields, slopeLines, memberFields, setFields, limitsText, refusalText}
 use Rattle.text.specs.Answer.{answerOf, written, unlessRefused, ratedText, loadingText}
 use Rattle.text.proofs.Answering.{few-factors}
@@ -86,17 +86,17 @@ rated-length : (e : Engine) (xs : Option (List ℤ)) → e .codelist .factors �
 rated-length e (some xs) h = unless-length (ratedOf e xs .outcome) _ (λ _. limits-length (e .codelist .factors) (ratedOf e xs .limits) h)
 rated-length e none h = refusal-length _
 
-loading-length : (l : Loading) (box : List ℕ) → (l .outcome ≡ Accepted → l .engine .codelist .factors ≤ 8)
-    → length (loadingText l box) ≤ 1024
-loading-length l box h =
-    unless-length (l .outcome) (ratedText (l .engine) (boxLines 8 [] box)) (λ a. rated-length (l .engine) (boxLines 8 [] box) (h a))
+loading-length : (l : Loading) (s : List ℕ) → (l .outcome ≡ Accepted → l .engine .codelist .factors ≤ 8)
+    → length (loadingText l s) ≤ 1024
+loading-length l s h =
+    unless-length (l .outcome) (ratedText (l .engine) (boxLines 8 [] s)) (λ a. rated-length (l .engine) (boxLines 8 [] s) (h a))
 
 pub answer-length : (s : List ℕ) → length (answerOf s) ≤ 1024
 unfolding answerOf sheetOf
 answer-length s =
-    let end = sheetLength true s in
+    let end = sheetLength box true s in
     let l = loadedOf emptyEngine (take end s) in
-    go (leb (length s) 8192) _ (loading-length l (boxOf s) (few-factors s end refl emptyEngine refl l refl))
+    go (leb (length s) 8192) _ (loading-length l (afterLine box s) (few-factors s end refl emptyEngine refl l refl))
   where
     go : (b : Bool) (t : List ℕ) → length t ≤ 1024 → length (cond b t (refusalText (Load TooLong))) ≤ 1024
     go true t h = h

@@ -16,7 +16,7 @@ use Rattle.engine.specs.declared.Rating.{Rating}
 use Rattle.engine.specs.declared.Refusal.the-variants.{Load, Rate}
 use Rattle.engine.specs.Engine.{emptyEngine, loadedOf, ratedOf}
 use Rattle.text.specs.declared.Text.{Text}
-use Rattle.text.specs.Input.{sheetOf, boxOf, boxLines}
+use Rattle.text.specs.Input.{box, sheetOf, afterLine, boxLines}
 use Rattle.text.specs.Output.{limitsText, refusalText}
 
 -- A text where a call accepted, else the refusal's
@@ -35,11 +35,12 @@ ratedText e none = refusalText (Rate RangeCount)
 
 -- what a loading leads to: its refusal comes before one of the box lines
 abbrev pub loadingText : Loading → List ℕ → List ℕ
-loadingText l box = unlessRefused (l .outcome) (ratedText (l .engine) (boxLines 8 [] box))
+loadingText l s = unlessRefused (l .outcome) (ratedText (l .engine) (boxLines 8 [] s))
 
 -- THE OUTPUT. "Input over 8,192 bytes is refusal 1"
 unfoldable pub answerOf : List ℕ → List ℕ
-answerOf s = cond (leb (length s) 8192) (loadingText (loadedOf emptyEngine (sheetOf s)) (boxOf s)) (refusalText (Load TooLong))
+answerOf s =
+    cond (leb (length s) 8192) (loadingText (loadedOf emptyEngine (sheetOf box s)) (afterLine box s)) (refusalText (Load TooLong))
 
 -- A text in an array of 1,024 bytes that it fills from the front, with zeros after it. No output is longer (Faithful: `whole`).
 unfoldable pub written : List ℕ → Text

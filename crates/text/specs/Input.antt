@@ -1,32 +1,37 @@
 -- What the program `rate` reads: "a sheet, a line `box`, and one line per factor with low and high, two numerals parted by a tab; each
 -- line ends with byte 10. The sheet ends before the first line `box` that has its byte 10; without one all is sheet." 01, end of "Figures
--- to hold it to".
+-- to hold it to". The word of the line that parts the input is a parameter, since other programs part theirs by another.
 use mathlib.Core.Bool.{Bool, true, _&&_, cond}
 use mathlib.Core.List.{List, [], _∷_, _++_}
 use mathlib.Core.Option.{Option, none, some}
 use Prim.Native.Nat.{ℕ, suc, zero, _+_}
 use lib.Dec.{eqb}
 use lib.IntN.{ℤ}
-use lib.ListN.{take, drop, getD}
+use lib.ListN.{length, take, drop}
 use Rattle.codelist.specs.declared.Numeral.{Numeral}
 use Rattle.codelist.specs.Load.{valueOf}
-use Rattle.codelist.specs.Read.{Read, good, bad, pair}
+use Rattle.codelist.specs.Read.{Read, good, bad, peek, rest, pair}
 
--- The next bytes are `box` and byte 10. Past the end `getD` gives 0, which is none of them.
-unfoldable pub isBox : List ℕ → Bool
-isBox s = eqb (getD s 0 0) 98 && eqb (getD s 1 0) 111 && eqb (getD s 2 0) 120 && eqb (getD s 3 0) 10
+-- The word of the line that parts a sheet from the box lines
+abbrev pub box : List ℕ
+box = 98 ∷ 111 ∷ 120 ∷ []
 
--- How many bytes stand before the first line `box`; `start` says whether the next byte begins a line
-unfoldable pub sheetLength : Bool → List ℕ → ℕ
-sheetLength start [] = 0
-sheetLength start (b ∷ s) = cond (start && isBox (b ∷ s)) 0 (suc (sheetLength (eqb b 10) s))
+-- The next bytes are the word w and byte 10. Past the end `peek` gives 256, which is no byte.
+unfoldable pub isLine : List ℕ → List ℕ → Bool
+isLine [] s = eqb (peek s) 10
+isLine (b ∷ w) s = eqb (peek s) b && isLine w (rest s)
 
-unfoldable pub sheetOf : List ℕ → List ℕ
-sheetOf s = take (sheetLength true s) s
+-- How many bytes stand before the first line w; `start` says whether the next byte begins a line
+unfoldable pub sheetLength : List ℕ → Bool → List ℕ → ℕ
+sheetLength w start [] = 0
+sheetLength w start (b ∷ s) = cond (start && isLine w (b ∷ s)) 0 (suc (sheetLength w (eqb b 10) s))
 
--- What follows the four bytes of the line `box`: nothing where there is none
-unfoldable pub boxOf : List ℕ → List ℕ
-boxOf s = drop (sheetLength true s + 4) s
+unfoldable pub sheetOf : List ℕ → List ℕ → List ℕ
+sheetOf w s = take (sheetLength w true s) s
+
+-- What follows the line w and its byte 10: nothing where there is none
+unfoldable pub afterLine : List ℕ → List ℕ → List ℕ
+afterLine w s = drop (sheetLength w true s + length w + 1) s
 
 -- What a box line leads to
 abbrev pub onPair : Read (Numeral × Numeral) → (ℤ → ℤ → List ℕ → Option (List ℤ)) → Option (List ℤ)

@@ -7,7 +7,7 @@ ghost use Prim.Native.Nat.{_+_, _≤_, _<_};
 ghost use lib.ListN.{length, drop};
 ghost use Rattle.engine.specs.Engine.{ratedOf};
 ghost use Rattle.writer.specs.Lent.{lent, putText};
-ghost use Rattle.text.specs.Input.{isBox, sheetLength, boxLines};
+ghost use Rattle.text.specs.Input.{isLine, sheetLength, boxLines};
 ghost use Rattle.text.specs.Output.{slope, naturalField, wholeField, rangeFields, slopeLines, setFields, limitsText, refusalText};
 ghost use Rattle.text.specs.Answer.{answerOf, written, ratingText, ratedText};
 ghost use Rattle.text.specs.Boxes.{numbersOf};
@@ -129,27 +129,35 @@ fn refusal(bytes: &mut [u8], at: usize, why: Refusal) -> usize
     writer::refusal(bytes, at, number, place)
 }
 
-// Whether the line `box` stands at a place.
-fn is_box(s: &[u8], at: usize) -> bool
+// Whether the line w stands at a place.
+fn is_line(s: &[u8], at: usize, w: &[u8]) -> bool
     requires { ⌜ at ≤ length (now s) ⌝ }
-    ensures { λ r. ⌜ r ≡ isBox (drop at (now (s .entry))) ⌝ }
+    ensures { λ r. ⌜ r ≡ isLine (now (w .entry)) (drop at (now (s .entry))) ⌝ }
 {
-    if s.len() - at < 4 {
+    if s.len() - at <= w.len() {
         return false;
     }
-    (s[at] == 98) & (s[at + 1] == 111) & (s[at + 2] == 120) & (s[at + 3] == 10)
+    let mut i: usize = 0;
+    while i < w.len() {
+        if s[at + i] != w[i] {
+            return false;
+        }
+        i += 1;
+    }
+    s[at + i] == LINE_END
 }
 
-// Where the sheet ends: at the first line `box`, or with the text.
-fn sheet_end(s: &[u8]) -> usize
-    ensures { λ r. ⌜ r ≡ sheetLength true (now (s .entry)) ⌝ }
-    ensures { λ r. ⌜ r ≤ length (now (s .entry)) ⌝ }
+// Where the sheet ends: at the first line w, or with the text. A line is looked for only where one starts.
+pub fn sheet_end(s: &[u8], w: &[u8]) -> usize
+    ensures { λ r. ⌜ r ≡ sheetLength (now (w .entry)) true (now (s .entry)) ⌝ }
 {
     let mut at: usize = 0;
     let mut start = true;
     while at < s.len() {
-        if start & is_box(s, at) {
-            return at;
+        if start {
+            if is_line(s, at, w) {
+                return at;
+            }
         }
         start = s[at] == LINE_END;
         at += 1;
@@ -252,7 +260,7 @@ fn output(bytes: &mut [u8], at: usize, input: &[u8], times: u64) -> usize
     if MOST_INPUT < input.len() {
         return refusal(bytes, at, Refusal::Load(codelist::Refusal::TooLong));
     }
-    let end = sheet_end(input);
+    let end = sheet_end(input, b"box");
     let loading = Engine::new().load(&input[..end]);
     let outcome = loading.outcome;
     let engine = loading.engine;
