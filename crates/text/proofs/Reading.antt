@@ -25,12 +25,12 @@ pub record Going (s : List ℕ) (from : ℕ) (ends : List ℤ) (count at : ℕ) 
 pub start : (s : List ℕ) (from : ℕ) → Going s from (replicate 16 (pos 0)) 0 from
 start s from = record { room = 8; few = refl; whole = refl; same = refl }
 
--- One turn of `boxLines`, before the end of the text
-unended : (s : List ℕ) (x y : _) → (s ≡ [] → ⊥) → atEnd s x y ≡ y
+-- Before the end of the text
+pub unended : {A : Type 0} (s : List ℕ) (x y : A) → (s ≡ [] → ⊥) → atEnd s x y ≡ y
 unended [] x y n = absurd (n refl)
 unended (b ∷ s) x y n = refl
 
-left-some : (s : List ℕ) (at : ℕ) → at < length s → drop at s ≡ [] → ⊥
+pub left-some : (s : List ℕ) (at : ℕ) → at < length s → drop at s ≡ [] → ⊥
 left-some s at h e = omega (arith, sym (length-drop at s) ∙ ap length e)
 
 -- two numbers more

@@ -39,7 +39,7 @@ onPair (good p s) f = f (valueOf (p .0)) (valueOf (p .1)) s
 onPair bad f = none
 
 -- The first at the end of the text, else the second
-abbrev pub atEnd : List ℕ → Option (List ℤ) → Option (List ℤ) → Option (List ℤ)
+abbrev pub atEnd : {A : Type 0} → List ℕ → A → A → A
 atEnd [] x y = x
 atEnd (b ∷ s) x y = y
 

@@ -121,7 +121,7 @@ fn limits(bytes: &mut [u8], at: usize, n: u8, l: Limits) -> usize
 }
 
 // The text of a refusal.
-fn refusal(bytes: &mut [u8], at: usize, why: Refusal) -> usize
+pub fn refusal(bytes: &mut [u8], at: usize, why: Refusal) -> usize
     ensures { λ r. ⌜ lent (now (bytes .exit)) r ≡ putText (lent (now (bytes .entry)) at) (refusalText why) ⌝ }
 {
     let number = why.number() as u64;

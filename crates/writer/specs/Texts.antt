@@ -14,9 +14,12 @@ abbrev pub wholeText : ℤ → List ℕ
 wholeText (pos m) = naturalText m
 wholeText (negsuc m) = 45 ∷ naturalText (suc m)
 
--- lines of a word, with the tab after it, and one number; a number and a text
+-- lines of a word, with the tab after it, and one number; one with its sign; a number and a text
 abbrev pub lineOfOne : List ℕ → ℕ → List ℕ
 lineOfOne w n = w ++ (naturalText n ++ (10 ∷ []))
+
+abbrev pub lineOfWhole : List ℕ → ℤ → List ℕ
+lineOfWhole w x = w ++ (wholeText x ++ (10 ∷ []))
 
 abbrev pub lineOfTwo : List ℕ → ℕ → List ℕ → List ℕ
 lineOfTwo w n t = w ++ (naturalText n ++ (9 ∷ (t ++ (10 ∷ []))))

@@ -3,7 +3,7 @@ ghost use mathlib.Core.Path.{_≡_};
 ghost use Prim.Native.Nat.{_+_, _<_};
 ghost use lib.IntN.{natAbs};
 ghost use Rattle.writer.specs.Lent.{lent, put, putText};
-ghost use Rattle.writer.specs.Texts.{naturalText, wholeText, lineOfOne, lineOfTwo, refusedText};
+ghost use Rattle.writer.specs.Texts.{naturalText, wholeText, lineOfOne, lineOfWhole, lineOfTwo, refusedText};
 
 const TAB: u8 = 9;
 
@@ -87,6 +87,15 @@ pub fn line_of_one(buffer: &mut [u8], at: usize, w: &[u8], n: u64) -> usize
 {
     let begun = word(buffer, at, w);
     let numbered = natural(buffer, begun, n);
+    byte(buffer, numbered, LINE_END)
+}
+
+// The same with a number that has a sign.
+pub fn line_of_whole(buffer: &mut [u8], at: usize, w: &[u8], x: i64) -> usize
+    ensures { λ r. ⌜ lent (now (buffer .exit)) r ≡ putText (lent (now (buffer .entry)) at) (lineOfWhole (now (w .entry)) x) ⌝ }
+{
+    let begun = word(buffer, at, w);
+    let numbered = whole(buffer, begun, x);
     byte(buffer, numbered, LINE_END)
 }
 
