@@ -1,0 +1,10 @@
+pub mod Lists
+pub mod Adding
+pub mod Walking
+pub mod Tally
+pub mod Leading
+pub mod Walked
+pub mod Counts
+pub mod Outcomes
+pub mod Income
+pub mod Promises
