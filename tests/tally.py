@@ -4,13 +4,16 @@ import subprocess
 from collections import Counter
 
 DIFFERENCES_SHOWN = 5
-TIMES_CAUGHT = 3  # a wrong rule is no longer tried once it was told from the right one this often
+BYTES_SHOWN = 9000  # of one input, from its start
+TIMES_CAUGHT = 3  # a wrong rule is no longer tried once it was told from the right one this often; no `least` is above it
 
 
 class Tally:
-    """One comparison's count. `rules` names all that has to be met, `errors` the wrong rules that have to be told from the right ones."""
+    """One comparison's count. `rules` names all that has to be met, `errors` the wrong rules that have to be told from the right ones; each of
+    them as often as `least` says."""
     rules = []
     errors = []
+    least = 1
 
     def __init__(self):
         self.met = Counter()
@@ -26,7 +29,8 @@ class Tally:
             self.passed += 1
             return
         if self.failed < DIFFERENCES_SHOWN:
-            print(f"{name}: input\n{text.decode('latin-1')}\n{complaint}")
+            more = f"... {len(text)} bytes" if len(text) > BYTES_SHOWN else ""
+            print(f"{name}: input\n{text[:BYTES_SHOWN].decode('latin-1')}{more}\n{complaint}")
         self.failed += 1
 
     def catch_errors(self, ours, of_wrong):
@@ -40,9 +44,10 @@ class Tally:
             print(f"{self.met[rule]:9}  {rule}")
 
     def missed(self):
-        """What was never met, and what was met under a name that is not in the list."""
-        missed = [rule for rule in self.rules if not self.met[rule]]
-        missed += [f"told from the right rules: {wrong.__doc__}" for wrong in self.errors if not self.caught[wrong]]
+        """What was met too seldom, and what was met under a name that is not in the list."""
+        counts = [(rule, self.met[rule]) for rule in self.rules]
+        counts += [(f"told from the right rules: {wrong.__doc__}", self.caught[wrong]) for wrong in self.errors]
+        missed = [f"met {count} times, at least {self.least} asked: {what}" for what, count in counts if count < self.least]
         return missed + [f"not in the list of rules: {rule}" for rule in sorted(set(self.met) - set(self.rules))]
 
 
