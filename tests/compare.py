@@ -12,8 +12,8 @@ tests/compare.py --self-test VECTORS [--program NAME]
     the reference alone against a file of vectors, one JSON object a line with "input" (hex) and "expected"; the program is the one that is named, or
     else the vector's "kind", or `rate` where that is no program's name
 
-Fails, too, where a rule, a refusal, a wrong rule of errors.py or an order of two refusals (orders.py) was met too seldom: never, or of `fleet`
-less than three times. The same seed gives the same inputs. The closing line counts each input once for each program.
+Fails, too, where a rule, a refusal, a wrong rule of errors.py or an order of two refusals (orders.py) was never met, or less often than it has to be
+(fleet_page.py). The same seed gives the same inputs. The closing line counts each input once for each program.
 """
 import argparse
 import json

@@ -10,8 +10,9 @@ from reference.fleet import MOST_BOATS, MOST_INPUT, RECORD, Fleet, Report, fleet
 from reference.outcome import Refusal
 from reference.ranges import LIMIT
 from reference.rating import Result
-from reference.sheet import MOST_FACTORS, NUMERAL, load, text_lines
+from reference.sheet import MOST_FACTORS, NUMERAL, REFERENCES, load, text_lines
 from reference.text import parted
+from reference.tidy import last_line
 from tally import Tally, difference
 
 # What 14 is given for. More than one can hold of an input; behind an accepted sheet too many bytes never do alone.
@@ -34,17 +35,22 @@ LIST_RULES = [
 
 REPORT_RULES = [
     *(f"fleet: a boat accepted, n = {factors}" for factors in range(1, MOST_FACTORS + 1)),
+    *(f"fleet: a boat accepted, by `{name}` at the end" for name in REFERENCES), "fleet: a boat accepted, 15 codelist lines or more",
     *(f"fleet: a boat refused under {number}" for number in (9, 11, 12)), "fleet: accepted, 9, 11 and 12 in one list",
-    "fleet: no boats", "fleet: one boat", "fleet: 1,000 boats", "fleet: every boat accepted", "fleet: no boat accepted",
+    "fleet: one boat", "fleet: every boat accepted", "fleet: no boat accepted",
     "fleet: a value above the limit", "fleet: a value below minus the limit", "fleet: a value one unit beyond the limit",
     "fleet: accepted at the limit", "fleet: accepted at minus the limit", "fleet: accepted with a number past n beyond the limit",
-    "fleet: a number of ten digits behind a minus sign", "fleet: the longest page, 97,267 bytes",
-    "fleet: the greatest high end more than once", "fleet: the greatest is the first of several", "fleet: the greatest is the last of several",
-    "fleet: the greatest is between others", "fleet: a refused boat before the greatest", "fleet: every high end below 0",
-    "fleet: every high end below 0, and a boat refused", "fleet: the greatest high end 0", "fleet: the first greatest low end at another boat",
+    "fleet: a number of ten digits behind a minus sign",
+    "fleet: the greatest high end more than once", "fleet: the greatest high end more than once, low ends apart",
+    "fleet: the greatest is the first of several", "fleet: the greatest is the last of several", "fleet: the greatest is between others",
+    "fleet: a refused boat before the greatest", "fleet: every high end below 0", "fleet: every high end below 0, and a boat refused",
+    "fleet: the greatest high end 0", "fleet: the first greatest low end at another boat",
     "fleet: low and high sums apart", "fleet: a low sum below 0, a high one above 0",
     *(f"fleet: a high sum above 2^{power}" for power in (31, 32)), *(f"fleet: a low sum below -2^{power}" for power in (31, 32)),
-    "fleet: 1,000 times the limit", "fleet: 1,000 times minus the limit",
+]
+
+EDGE_RULES = [
+    "fleet: no boats", "fleet: 1,000 boats", "fleet: the longest page, 97,267 bytes", "fleet: 1,000 times the limit", "fleet: 1,000 times minus the limit",
 ]
 
 
@@ -58,13 +64,16 @@ RIGHT = Fleet(remembered)
 
 
 class FleetComparison(Tally):
-    rules = LOADING_RULES + LIST_RULES + REPORT_RULES
+    rules = LOADING_RULES + LIST_RULES + EDGE_RULES + REPORT_RULES
     errors = FLEET_ERRORS
-    least = 3
 
     def __init__(self, fleet):
         super().__init__()
         self.fleet = fleet
+
+    def least(self, rule):
+        """The random lists meet what a report can have often; all else has inputs of its own, which are made a few times."""
+        return 5 if rule in REPORT_RULES else 3
 
     def compare(self, name, text, expected=None):
         answer = RIGHT.run(text)
@@ -138,6 +147,8 @@ class FleetComparison(Tally):
         taken = [number for boat in accepted for number in boat[:sheet.factors]]
         conditions = {
             f"fleet: a boat accepted, n = {sheet.factors}": accepted,
+            f"fleet: a boat accepted, by `{sheet.operations[-1].name}` at the end": accepted,
+            "fleet: a boat accepted, 15 codelist lines or more": accepted and last_line(sheet) >= 15,
             "fleet: accepted, 9, 11 and 12 in one list": accepted and refused == {9, 11, 12},
             "fleet: no boats": not boats,
             "fleet: one boat": len(boats) == 1,
@@ -173,6 +184,7 @@ class FleetComparison(Tally):
         alone = len(highs) > 1 and highs.count(max(highs)) == 1
         conditions = {
             "fleet: the greatest high end more than once": highs.count(max(highs)) > 1,
+            "fleet: the greatest high end more than once, low ends apart": len({low for low, high in accepted.values() if high == max(highs)}) > 1,
             "fleet: the greatest is the first of several": alone and greatest == 0,
             "fleet: the greatest is the last of several": alone and greatest == len(highs) - 1,
             "fleet: the greatest is between others": alone and 0 < greatest < len(highs) - 1,

@@ -5,15 +5,13 @@ from collections import Counter
 
 DIFFERENCES_SHOWN = 5
 BYTES_SHOWN = 9000  # of one input, from its start
-TIMES_CAUGHT = 3  # a wrong rule is no longer tried once it was told from the right one this often; no `least` is above it
+TIMES_CAUGHT = 3  # a wrong rule is no longer tried once it was told from the right one this often
 
 
 class Tally:
-    """One comparison's count. `rules` names all that has to be met, `errors` the wrong rules that have to be told from the right ones; each of
-    them as often as `least` says."""
+    """One comparison's count. `rules` names all that has to be met, `errors` the wrong rules that have to be told from the right ones."""
     rules = []
     errors = []
-    least = 1
 
     def __init__(self):
         self.met = Counter()
@@ -43,11 +41,14 @@ class Tally:
         for rule in rules:
             print(f"{self.met[rule]:9}  {rule}")
 
+    def least(self, rule):
+        """How often a rule has to be met."""
+        return 1
+
     def missed(self):
         """What was met too seldom, and what was met under a name that is not in the list."""
-        counts = [(rule, self.met[rule]) for rule in self.rules]
-        counts += [(f"told from the right rules: {wrong.__doc__}", self.caught[wrong]) for wrong in self.errors]
-        missed = [f"met {count} times, at least {self.least} asked: {what}" for what, count in counts if count < self.least]
+        missed = [f"met {self.met[rule]} times, and not {self.least(rule)}: {rule}" for rule in self.rules if self.met[rule] < self.least(rule)]
+        missed += [f"never told from the right rules: {wrong.__doc__}" for wrong in self.errors if not self.caught[wrong]]
         return missed + [f"not in the list of rules: {rule}" for rule in sorted(set(self.met) - set(self.rules))]
 
 
