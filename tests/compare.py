@@ -1,17 +1,19 @@
 #!/usr/bin/env python3
-"""Compares the programs `rate` and `tidy` with the papers' rules over unlimited whole numbers and exact fractions (tests/reference).
+"""Compares the programs `rate`, `tidy` and `fleet` with the papers' rules over unlimited whole numbers and exact fractions (tests/reference).
 
-tests/compare.py --binary PATH [--tidy PATH [--tidy-into PATH]] [--seed N] [--count N] [--dead-lines N]
+tests/compare.py --binary PATH [--tidy PATH [--tidy-into PATH]] [--fleet PATH] [--seed N] [--count N] [--dead-lines N] [--fleets N]
     `rate`: the figures of the papers, the examples, inputs that two refusals fit, and random ones: every printed byte; the bends beside those
     with each square rounded (02, request 2), which must be no narrower; for a share of the accepted random ones also the exact premium and its
     derivatives, as fractions, at a point inside the ranges
     `tidy`: the sheets of all these, and sheets with dead lines put in (dead_lines.py): every printed byte, and `rate` of the tidied sheet
     `tidy_into`: a share of them, with buffers that are too short, just long enough and longer: the outcome and every byte of the buffer
-tests/compare.py --self-test VECTORS [--program tidy]
-    the reference alone against a file of vectors, one JSON object a line with "input" (hex) and "expected"
+    `fleet`: lists of boats (fleets.py), the figures of the request and the example: every printed byte
+tests/compare.py --self-test VECTORS [--program NAME]
+    the reference alone against a file of vectors, one JSON object a line with "input" (hex) and "expected"; the program is the one that is named, or
+    else the vector's "kind", or `rate` where that is no program's name
 
-Fails, too, where a rule, a refusal, a wrong rule of errors.py or an order of two refusals (orders.py) was never met. The same seed gives the
-same inputs. The closing line counts each input once for each program.
+Fails, too, where a rule, a refusal, a wrong rule of errors.py or an order of two refusals (orders.py) was never met, or less often than it has to be
+(fleet_page.py). The same seed gives the same inputs. The closing line counts each input once for each program.
 """
 import argparse
 import json
@@ -20,11 +22,14 @@ import sys
 from pathlib import Path
 
 import dead_lines
+import fleets
 from errors import ERRORS, STEPS, SquaresRoundedEachInCross, SquaresRoundedEachInSq, uncounted
-from figures import FIGURES, TIDIED
+from figures import FIGURES, REPORTED, TIDIED
+from fleet_page import FleetComparison
 from generate import box_text, case
 from orders import ORDERS, cases, orders_of
 from reference.exact import TooLarge, broken_promises
+from reference.fleet import Fleet, fleet_printed
 from reference.outcome import Refusal
 from reference.ranges import UNIT, Range
 from reference.rating import Result
@@ -37,6 +42,7 @@ from tidying import TidyComparison
 EXAMPLES = Path(__file__).resolve().parent.parent / "examples"
 EXACT_SHARE = 0.5
 ORDER_ROUNDS = 3  # inputs for each order
+FLEET_ROUNDS = 3  # inputs for each way in which a list of boats is refused, and for each of its edges
 
 # Refusal 10 is not among them: the program loads a sheet before it rates.
 RULES = [
@@ -210,13 +216,34 @@ def tidy_inputs(seed, count):
         yield f"case {number} ({kind})", text, None
 
 
-def self_test(path, print_of):
+def fleet_inputs(seed, count):
+    """Inputs of `fleet`: a name, the bytes, and the print where it is written down."""
+    for name, text, expected in REPORTED:
+        yield f"figure '{name}'", text, expected
+    for example in sorted(EXAMPLES.glob("*.fleet")):
+        yield f"example '{example.stem}'", example.read_bytes(), example.with_suffix(".page").read_bytes()
+    for number in range(FLEET_ROUNDS):
+        for name, text in fleets.cases(random.Random(f"{seed}/list/{number}")):
+            yield f"'{name}', {number}", text, None
+    for number in range(count):
+        kind, text = fleets.case(random.Random(f"{seed}/fleet/{number}"))
+        yield f"case {number} ({kind})", text, None
+
+
+PRINTS = {
+    "rate": lambda text: printed(run(text).answer),
+    "tidy": tidy_printed,
+    "fleet": lambda text: fleet_printed(Fleet().run(text)),
+}
+
+
+def self_test(path, program):
     passed = failed = 0
     with open(path) as vectors:
         for number, line in enumerate(vectors, 1):
             vector = json.loads(line)
             text = bytes.fromhex(vector["input"])
-            ours = print_of(text)
+            ours = PRINTS.get(program or vector.get("kind"), PRINTS["rate"])(text)
             if ours == vector["expected"].encode():
                 passed += 1
                 continue
@@ -232,17 +259,21 @@ def main():
     parser.add_argument("--binary", help="the program `rate`")
     parser.add_argument("--tidy", help="the program `tidy`")
     parser.add_argument("--tidy-into", help="the program `tidy_into`, beside it")
+    parser.add_argument("--fleet", help="the program `fleet`")
     parser.add_argument("--seed", type=int, default=1)
     parser.add_argument("--count", type=int, default=6000, help="random inputs, beside the figures")
     parser.add_argument("--dead-lines", type=int, default=1500, help="random inputs with dead lines, where `tidy` is compared")
+    parser.add_argument("--fleets", type=int, default=600, help="random lists of boats, where `fleet` is compared")
     parser.add_argument("--self-test", metavar="VECTORS")
-    parser.add_argument("--program", choices=("rate", "tidy"), default="rate", help="whose vectors they are")
+    parser.add_argument("--program", choices=PRINTS, help="whose vectors they are, if not their kind's")
     arguments = parser.parse_args()
     if arguments.self_test:
-        print_of = tidy_printed if arguments.program == "tidy" else lambda text: printed(run(text).answer)
-        sys.exit(not self_test(arguments.self_test, print_of))
+        sys.exit(not self_test(arguments.self_test, arguments.program))
     if not arguments.binary:
         parser.error("--binary or --self-test")
+    for path in (arguments.binary, arguments.tidy, arguments.tidy_into, arguments.fleet):
+        if path and not Path(path).is_file():
+            parser.error(f"no program {path}")
     rating = Comparison(Path(arguments.binary).resolve())
     into = Path(arguments.tidy_into).resolve() if arguments.tidy_into else None
     tidying = TidyComparison(Path(arguments.tidy).resolve(), rating.binary, into) if arguments.tidy else None
@@ -253,7 +284,11 @@ def main():
     if tidying:
         for name, text, expected in tidy_inputs(arguments.seed, arguments.dead_lines):
             tidying.compare(name, text, rating.compare(name, text), expected)
-    sys.exit(not concluded([rating, tidying] if tidying else [rating]))
+    paging = FleetComparison(Path(arguments.fleet).resolve()) if arguments.fleet else None
+    if paging:
+        for name, text, expected in fleet_inputs(arguments.seed, arguments.fleets):
+            paging.compare(name, text, expected)
+    sys.exit(not concluded([comparison for comparison in (rating, tidying, paging) if comparison]))
 
 
 def concluded(comparisons):
@@ -262,7 +297,7 @@ def concluded(comparisons):
         comparison.conclude()
     missed = [rule for comparison in comparisons for rule in comparison.missed()]
     for rule in missed:
-        print(f"never met: {rule}")
+        print(rule)
     passed, failed = (sum(counts) for counts in zip(*((comparison.passed, comparison.failed) for comparison in comparisons)))
     print(f"{passed} passed, {failed} failed")
     return not missed and failed == 0

@@ -1,14 +1,14 @@
 #!/usr/bin/env python3
-"""tests/documents.py --binary PATH --tidy PATH: runs the examples of README.md, examples/README.md and docs/SHEET.md, and compares what the
-documents say is printed.
+"""tests/documents.py --binary PATH --tidy PATH --fleet PATH: runs the examples of README.md, examples/README.md and docs/SHEET.md, and compares
+what the documents say is printed.
 
 An example of SHEET.md is a block between lines ```: the input, a line `prints:`, the output. `→` is a tab, and `LINE × N` is that line N times.
-With a line `tidied:` in the place of `prints:` the program is `tidy`, else it is `rate`. The first example of README.md and of SHEET.md is
-indented, and has a remark behind the fields of each line; in the README blanks stand for the tabs. In the same way an indented paragraph of
-any of the three may have a command as its first line, `$ target/bin/tidy < examples/FILE` (or `rate`) or `$ cat examples/FILE`, and what it
-prints below.
+With a line `tidied:` in the place of `prints:` the program is `tidy`, with `reported:` it is `fleet`, else it is `rate`. The first example of
+README.md and of SHEET.md is indented, and has a remark behind the fields of each line; in the README blanks stand for the tabs. In the same way
+an indented paragraph of any of the three may have a command as its first line, `$ target/bin/tidy < examples/FILE` (or `rate`, or `fleet`) or
+`$ cat examples/FILE`, and what it prints below.
 
-Fails, too, where an operation, a refusal or the program `tidy` has no example.
+Fails, too, where an operation, a refusal or a program has no example.
 """
 import argparse
 import re
@@ -19,8 +19,9 @@ from typing import NamedTuple
 
 ROOT = Path(__file__).resolve().parent.parent
 OPERATIONS = ("add", "mul", "addc", "mulc", "pow", "inv")
-PROGRAMS = {"prints:": "rate", "tidied:": "tidy"}
-REFUSALS = [number for number in range(1, 13) if number != 10]  # the program loads a sheet before it rates
+PROGRAMS = {"prints:": "rate", "tidied:": "tidy", "reported:": "fleet"}
+# no program prints 10, since each loads a sheet first, nor 13, since `tidy` has room for every sheet
+REFUSALS = {"rate": [number for number in range(1, 13) if number != 10], "fleet": [14]}
 
 
 def written(lines):
@@ -47,7 +48,7 @@ def blocks(document):
         block = lines[start + 1:end]
         words = [line for line in block if line in PROGRAMS]
         if len(words) != 1:
-            raise SystemExit(f"{document.name}:{start + 1}: a block without one line 'prints:' or 'tidied:'")
+            raise SystemExit(f"{document.name}:{start + 1}: a block without one line of {', '.join(PROGRAMS)}")
         at = block.index(words[0])
         yield Example(f"{document.name}:{start + 1}", PROGRAMS[words[0]], written(block[:at]), written(block[at + 1:]))
 
@@ -79,27 +80,31 @@ def commands(document):
         command, *output = paragraph.strip("\n").split("\n")
         if not command.startswith("    $ "):
             continue
-        form = re.fullmatch(r" {4}\$ (?:target/bin/(rate|tidy) <|(cat)) (examples/[\w.-]+)", command)
+        form = re.fullmatch(r" {4}\$ (?:target/bin/(rate|tidy|fleet) <|(cat)) (examples/[\w.-]+)", command)
         if form is None:
             raise SystemExit(f"{document.name}: a command of another form: {command.strip()}")
         yield Example(f"{document.name}: {command.strip()}", form[1] or form[2], (ROOT / form[3]).read_bytes(), unremarked(output))
 
 
 def unshown(examples):
-    """The operations without an accepted example that begins with them, the refusals without an example, and `tidy` without one."""
-    rated = [example for example in examples if example.program == "rate"]
-    first = {example.given.split(b"\n")[1].split(b"\t")[0].decode() for example in rated if example.expected.startswith(b"value")}
-    numbers = {int(example.expected.split(b"\t")[1]) for example in rated if example.expected.startswith(b"refused")}
-    missing = [f"`{name}`" for name in OPERATIONS if name not in first] + [f"refusal {number}" for number in REFUSALS if number not in numbers]
-    return missing + ([] if any(example.program == "tidy" for example in examples) else ["`tidy`"])
+    """The operations without an accepted example that begins with them, the refusals without an example, and the programs without one that is
+    not refused."""
+    accepted = [example for example in examples if not example.expected.startswith(b"refused")]
+    first = {example.given.split(b"\n")[1].split(b"\t")[0].decode() for example in accepted if example.program == "rate"}
+    refused = {(example.program, int(example.expected.split(b"\t")[1])) for example in examples if example not in accepted}
+    missing = [f"`{name}`" for name in OPERATIONS if name not in first]
+    missing += [f"refusal {number}" for program, numbers in REFUSALS.items() for number in numbers if (program, number) not in refused]
+    return missing + [f"`{program}`" for program in PROGRAMS.values() if program not in {example.program for example in accepted}]
 
 
 def main():
     parser = argparse.ArgumentParser(description=__doc__, formatter_class=argparse.RawDescriptionHelpFormatter)
     parser.add_argument("--binary", required=True, help="the program `rate`")
     parser.add_argument("--tidy", required=True, help="the program `tidy`")
+    parser.add_argument("--fleet", required=True, help="the program `fleet`")
     arguments = parser.parse_args()
-    binaries = {"rate": Path(arguments.binary).resolve(), "tidy": Path(arguments.tidy).resolve(), "cat": "cat"}
+    paths = {"rate": arguments.binary, "tidy": arguments.tidy, "fleet": arguments.fleet}
+    binaries = {"cat": "cat", **{program: Path(path).resolve() for program, path in paths.items()}}
     readme, classes, sheet = ROOT / "README.md", ROOT / "examples" / "README.md", ROOT / "docs" / "SHEET.md"
     examples = [laid_out(readme), laid_out(sheet), *blocks(sheet)]
     examples += [example for document in (readme, classes, sheet) for example in commands(document)]

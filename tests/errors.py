@@ -2,12 +2,17 @@
 
 Of rating, the first five are the errors that 01 names at its end, then come the results "From the buyer" wants turned down, then other
 readings of sentences that decide a result, and near misses of 02's request 2, the sum of squares. Those of tidying (request 1) are near misses
-of what is used, what is kept and how it is renumbered.
+of what is used, what is kept and how it is renumbered; those of the fleet page (request 3), of what a boat is, of what is counted, summed and
+compared, and of which lists are taken.
 """
-from reference.outcome import Refused, refuse
+import re
+
+from reference.fleet import MOST_INPUT, RECORD, Fleet, rated
+from reference.outcome import Refusal, Refused, refuse
 from reference.ranges import LIMIT, UNIT, ZERO, PastLimit, Range
-from reference.rating import Rules
-from reference.sheet import REFERENCES, Operation
+from reference.rating import Result, Rules
+from reference.sheet import REFERENCES, Operation, text_lines
+from reference.text import MOST_INPUT as MOST_RATED
 from reference.tidy import Tidying, last_line, operation_at
 
 
@@ -357,4 +362,286 @@ class ReferencesSorted(Tidying):
 TIDY_ERRORS = [
     SecondOfProductUnused, SecondOfSumUnused, ExponentUsed, TimesZeroUnused, DirectUseOnly, TwoStepsOnly, NamedAtAll, EqualLinesMerged,
     InversesKept, LastFactorDropped, UnusedFactorsDropped, OldNumbers, SecondLeftOld, LessAllDropped, ExponentRenumbered, ReferencesSorted,
+]
+
+
+# ---- the fleet page: a boat
+
+class EightForN(Fleet):
+    """All eight numbers of a boat taken for factor values."""
+    def point(self, sheet, boat):
+        return tuple(end for value in boat for end in (value, value))
+
+
+class LastNumbers(Fleet):
+    """The last n numbers taken and not the first."""
+    def point(self, sheet, boat):
+        return super().point(sheet, boat[RECORD - sheet.factors:])
+
+
+class NumbersInPairs(Fleet):
+    """The numbers taken two by two for the ends of ranges."""
+    def point(self, sheet, boat):
+        return boat[:2 * sheet.factors] if 2 * sheet.factors <= RECORD else super().point(sheet, boat)
+
+
+class RecordsOfN(Fleet):
+    """The next boat taken to begin behind the first n numbers of this one."""
+    def report(self, sheet, boats):
+        numbers, n = [number for boat in boats for number in boat], sheet.factors
+        return super().report(sheet, [tuple(numbers[k:k + n]) for k in range(0, len(numbers) - n + 1, n)])
+
+
+class RestChecked(Fleet):
+    """A number past the first n refused where it is beyond the limit."""
+    def rating(self, sheet, boat):
+        return Refusal(9, 1) if any(abs(number) > LIMIT for number in boat) else super().rating(sheet, boat)
+
+
+class LimitRefused(Fleet):
+    """A factor value at the limit itself refused."""
+    def rating(self, sheet, boat):
+        return Refusal(9, 1) if LIMIT in map(abs, boat[:sheet.factors]) else super().rating(sheet, boat)
+
+
+class OneBeyondTaken(Fleet):
+    """A factor value one unit beyond the limit taken for one at the limit."""
+    def point(self, sheet, boat):
+        return super().point(sheet, [number - (number == LIMIT + 1) + (number == -LIMIT - 1) for number in boat])
+
+
+# ---- the fleet page: counts and sums
+
+class RefusedAccepted(Fleet):
+    """A refused boat counted as accepted, too, with ends 0."""
+    def figures(self, ratings):
+        return super().figures(ratings)._replace(accepted=len(ratings))
+
+
+class RangeForLimit(Fleet):
+    """9 counted as 12, and 12 as 9."""
+    def refused_under(self, number, ratings):
+        return super().refused_under({9: 12, 12: 9}.get(number, number), ratings)
+
+
+class RangeForDivisor(Fleet):
+    """9 counted as 11, and 11 as 9."""
+    def refused_under(self, number, ratings):
+        return super().refused_under({9: 11, 11: 9}.get(number, number), ratings)
+
+
+class DivisorForLimit(Fleet):
+    """11 counted as 12, and 12 as 11."""
+    def refused_under(self, number, ratings):
+        return super().refused_under({11: 12, 12: 11}.get(number, number), ratings)
+
+
+class RefusalOfThePage(Fleet):
+    """The page refused with the first boat that is refused."""
+    def figures(self, ratings):
+        for rating in ratings:
+            if isinstance(rating, Refusal):
+                refuse(*rating)
+        return super().figures(ratings)
+
+
+class EndsLeftOver(Fleet):
+    """The ends of the boat before a refused one added once more."""
+    def summed(self, ratings):
+        values = []
+        for rating in ratings:
+            values.append(rating.value if isinstance(rating, Result) else values[-1] if values else ZERO)
+        return values
+
+
+class CutOff(Rules):
+    """Ends beyond the limit cut off at it, so that 12 does not come up."""
+    def kept(self, r, step):
+        return Range(max(r.low, -LIMIT), min(r.high, LIMIT))
+
+    def power(self, a, e, step):
+        return self.kept(super().power(a, e, step), step)
+
+
+class RefusedSummed(Fleet):
+    """A boat refused with 12 added all the same, its ends cut off at the limit."""
+    def report(self, sheet, boats):
+        report = super().report(sheet, boats)
+        ratings = [self.rating(sheet, boat) for boat in boats]
+        past = [boat for boat, rating in zip(boats, ratings) if isinstance(rating, Refusal) and rating.number == 12]
+        added = self.summed([rated(sheet, self.point(sheet, boat), CutOff) for boat in past])
+        return report._replace(low=report.low + sum(value.low for value in added), high=report.high + sum(value.high for value in added))
+
+
+class HighEndsTwice(Fleet):
+    """The high ends summed for the low ones."""
+    def figures(self, ratings):
+        report = super().figures(ratings)
+        return report._replace(low=report.high)
+
+
+class SumsOf32Bits(Fleet):
+    """The sums kept in 32 bits."""
+    def figures(self, ratings):
+        report = super().figures(ratings)
+        low, high = ((end + 2 ** 31) % 2 ** 32 - 2 ** 31 for end in (report.low, report.high))
+        return report._replace(low=low, high=high)
+
+
+# ---- the fleet page: the greatest
+
+class LastGreatest(Fleet):
+    """The last boat with the greatest high end, not the first."""
+    def greatest(self, ratings):
+        last = super().greatest(ratings[::-1])
+        return len(ratings) + 1 - last if last else 0
+
+
+class PositionFromZero(Fleet):
+    """The position counted from 0."""
+    def greatest(self, ratings):
+        return max(super().greatest(ratings) - 1, 0)
+
+
+class PositionAmongAccepted(Fleet):
+    """The position counted among the accepted boats."""
+    def greatest(self, ratings):
+        return super().greatest([rating for rating in ratings if isinstance(rating, Result)])
+
+
+class GreatestAboveZero(Fleet):
+    """Only high ends above 0 taken for the greatest: the search begins with 0."""
+    def greatest(self, ratings):
+        return super().greatest([rating if isinstance(rating, Result) and rating.value.high > 0 else None for rating in ratings])
+
+
+class RefusedGreatest(Fleet):
+    """A refused boat, whose ends are 0, taken for the greatest."""
+    def greatest(self, ratings):
+        nothing = Result(ZERO, (), frozenset(), frozenset(), ZERO, ZERO)
+        return super().greatest([rating if isinstance(rating, Result) else nothing for rating in ratings])
+
+
+class GreatestLow(Fleet):
+    """The greatest low end looked for, not the greatest high end."""
+    def accepted(self, ratings):
+        return {position: Range(value.low, value.low) for position, value in super().accepted(ratings).items()}
+
+    def summed(self, ratings):
+        return list(super().accepted(ratings).values())
+
+
+# ---- the fleet page: the list
+
+class ThousandRefused(Fleet):
+    """A list of 1,000 boats refused."""
+    most_boats = Fleet.most_boats - 1
+
+
+class ThousandAndOneTaken(Fleet):
+    """A list of 1,001 boats taken."""
+    most_boats = Fleet.most_boats + 1
+
+
+class FirstThousand(Fleet):
+    """The first 1,000 boats of a longer list taken."""
+    def report(self, sheet, boats):
+        return super().report(sheet, boats[:self.most_boats])
+
+
+class EmptyListRefused(Fleet):
+    """An empty list refused with 14."""
+    def boats(self, text):
+        return super().boats(text or None)
+
+
+class NoLineForEmptyList(Fleet):
+    """No line `boats` taken for an empty list."""
+    def boats(self, text):
+        return super().boats(text or b"")
+
+
+class ListBeforeSheet(Fleet):
+    """14 ahead of the refusals of loading."""
+    def run(self, text):
+        try:
+            if len(self.listed(text)) > self.most_boats:
+                refuse(14, 0)
+        except Refused as refused:
+            return refused.args[0]
+        return super().run(text)
+
+
+class BytesBeforeSheet(Fleet):
+    """14 for too many bytes, and only that, ahead of the refusals of loading."""
+    def run(self, text):
+        return Refusal(14, 0) if len(text) > MOST_INPUT else super().run(text)
+
+
+class TooManyBytesOne(Fleet):
+    """Too many bytes refused with 1, as `rate` does."""
+    def run(self, text):
+        return Refusal(1, 0) if len(text) > MOST_INPUT else super().run(text)
+
+
+class BytesOfRate(Fleet):
+    """As many bytes taken as `rate` takes."""
+    def run(self, text):
+        return Refusal(1, 0) if len(text) > MOST_RATED else super().run(text)
+
+
+class LastLineParts(Fleet):
+    """The last line `boats` taken for the end of the sheet, not the first."""
+    def parted(self, text):
+        before, parting, after = text.rpartition(b"\nboats\n")
+        return (before + b"\n", after) if parting else super().parted(text)
+
+
+class BlankLinesSkipped(Fleet):
+    """Blank lines between the boats skipped."""
+    def boats(self, text):
+        return super().boats(None if text is None else re.sub(rb"^\n", b"", text, flags=re.MULTILINE))
+
+
+class LastByteForgiven(Fleet):
+    """A last boat line without its byte 10 taken."""
+    def boats(self, text):
+        return super().boats(text + b"\n" if text and not text_lines(text)[1] else text)
+
+
+class Byte13Forgiven(Fleet):
+    """Byte 13 before byte 10 dropped."""
+    def boats(self, text):
+        return super().boats(None if text is None else text.replace(b"\r\n", b"\n"))
+
+
+class UnfinishedDropped(Fleet):
+    """A last record of fewer than eight numbers dropped."""
+    def boats(self, text):
+        lines = (text or b"").split(b"\n")
+        return super().boats(b"\n".join(lines[:-2] + lines[-1:]) if len(lines) > 1 and 0 < lines[-2].count(b"\t") < RECORD - 1 else text)
+
+
+class NinthDropped(Fleet):
+    """A ninth number and what follows it dropped."""
+    def boats(self, text):
+        if text is None:
+            return super().boats(text)
+        return super().boats(b"\n".join(b"\t".join(line.split(b"\t")[:RECORD]) for line in text.split(b"\n")))
+
+
+class LooseNumerals(Fleet):
+    """Signs and zeros in front, and more than ten digits, taken for numerals."""
+    def boats(self, text):
+        loose = rb"(?<![^\t\n])[+-]?[0-9]{1,20}(?![^\t\n])"
+        most = 10 ** 10 - 1
+        return super().boats(None if text is None else re.sub(loose, lambda found: b"%d" % max(-most, min(most, int(found[0]))), text))
+
+
+FLEET_ERRORS = [
+    EightForN, LastNumbers, NumbersInPairs, RecordsOfN, RestChecked, LimitRefused, OneBeyondTaken,
+    RefusedAccepted, RangeForLimit, RangeForDivisor, DivisorForLimit, RefusalOfThePage, EndsLeftOver, RefusedSummed, HighEndsTwice, SumsOf32Bits,
+    LastGreatest, PositionFromZero, PositionAmongAccepted, GreatestAboveZero, RefusedGreatest, GreatestLow,
+    ThousandRefused, ThousandAndOneTaken, FirstThousand, EmptyListRefused, NoLineForEmptyList, ListBeforeSheet, BytesBeforeSheet, TooManyBytesOne,
+    BytesOfRate, LastLineParts, BlankLinesSkipped, LastByteForgiven, Byte13Forgiven, UnfinishedDropped, NinthDropped, LooseNumerals,
 ]

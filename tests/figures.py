@@ -1,6 +1,7 @@
-"""The figures and edges of the papers as inputs of `rate` with the whole text it must print; inputs whose sheets are tidied, with the tidied sheet.
+"""The figures and edges of the papers as inputs of `rate` with the whole text it must print; inputs whose sheets are tidied, with the tidied sheet;
+inputs of `fleet`, with its whole print.
 
-In both, `;` stands for byte 10 and a blank for the tab. Where 01 gives a part of a result only, the other lines follow from its table.
+In all of them, `;` stands for byte 10 and a blank for the tab. Where 01 gives a part of a result only, the other lines follow from its table.
 """
 
 
@@ -227,3 +228,61 @@ TIDYING = [
 ]
 
 TIDIED = [(name, text(given), text(expected)) for name, given, expected in TIDYING]
+
+
+def boats(*numbers):
+    """A boat line for each number or few: they come first in it, and zeros fill it up."""
+    rows = [str(few).split() for few in numbers]
+    return "".join(" ".join(row + ["0"] * (8 - len(row))) + ";" for row in rows)
+
+
+def page(*figures):
+    names = ("boats", "accepted", "range", "divisor", "limit", "low", "high", "greatest")
+    return "".join(f"{name} {figure};" for name, figure in zip(names, figures))
+
+
+KEPT = "factors 1;addc 1 0;"  # the premium is the factor itself
+
+# 02, request 3, sentence by sentence, and what the program makes of its input.
+FLEET = [
+    ("an empty list", KEPT + "boats;", page(0, 0, 0, 0, 0, 0, 0, 0)),
+    ("both ends at its value", "factors 1;mulc 1 -1;boats;" + boats(5000), page(1, 1, 0, 0, 0, -1, 0, 1)),
+    ("the first n numbers", "factors 2;mulc 2 20000;add 1 3;boats;" + boats("1 20 300 4000"), page(1, 1, 0, 0, 0, 41, 41, 1)),
+    ("all eight numbers", "factors 8;mul 1 8;boats;" + boats("20000 0 0 0 0 0 0 30000"), page(1, 1, 0, 0, 0, 60000, 60000, 1)),
+    ("the rest ignored, beyond the limit too", KEPT + "boats;" + boats("7 2000000001 -9999999999 9999999999 1 1 1 -2000000001"),
+     page(1, 1, 0, 0, 0, 7, 7, 1)),
+    ("accepted, and refused under 11, 12 and 9", "factors 1;inv 1;boats;" + boats(30000, 0, 1, 2000000001), page(4, 1, 1, 1, 1, 3333, 3334, 1)),
+    ("none accepted", "factors 1;inv 1;boats;" + boats(-2000000001, 0, 0, -1, 1, -1), page(6, 0, 1, 2, 3, 0, 0, 0)),
+    ("9 ahead of 11 and of 12", "factors 2;inv 1;boats;" + boats("0 2000000001", "1 -2000000001", "0 0", "1 0"), page(4, 0, 2, 1, 1, 0, 0, 0)),
+    ("values at the limit", KEPT + "boats;" + boats(2000000000, -2000000000, 2000000001, -2000000001), page(4, 2, 2, 0, 0, 0, 0, 1)),
+    ("sums beyond the limit", KEPT + "boats;" + boats(*[2000000000] * 3), page(3, 3, 0, 0, 0, 6000000000, 6000000000, 1)),
+    ("low and high sums apart", "factors 1;inv 1;boats;" + boats(30000, 70000, 30000), page(3, 3, 0, 0, 0, 8094, 8097, 1)),
+    ("the first of three with the greatest high end", KEPT + "boats;" + boats(1, 5, 3, 5, 5), page(5, 5, 0, 0, 0, 19, 19, 2)),
+    ("the high end, and not the low one", "factors 1;mulc 1 5000;boats;" + boats(4, 9, 10), page(3, 3, 0, 0, 0, 11, 12, 2)),
+    ("high ends below 0", KEPT + "boats;" + boats(-7, -3, -5), page(3, 3, 0, 0, 0, -15, -15, 2)),
+    ("high ends below 0 behind a refused boat", KEPT + "boats;" + boats(2000000001, -7, -3), page(3, 2, 1, 0, 0, -10, -10, 3)),
+    ("a position counts the refused boats", "factors 1;inv 1;boats;" + boats(0, 1, 20000, 10000), page(4, 2, 0, 1, 1, 15000, 15000, 4)),
+    ("999 boats", KEPT + "boats;" + boats(*[2] * 999), page(999, 999, 0, 0, 0, 1998, 1998, 1)),
+    ("1,000 boats", KEPT + "boats;" + boats(*[2] * 999, 3), page(1000, 1000, 0, 0, 0, 2001, 2001, 1000)),
+    ("1,001 boats", KEPT + "boats;" + boats(*[2] * 1001), "refused 14 0;"),
+    ("an unfinished record", KEPT + "boats;" + boats(1) + "1 2 3 4 5 6 7;", "refused 14 0;"),
+    ("nine numbers", KEPT + "boats;" + "1 2 3 4 5 6 7 8 9;", "refused 14 0;"),
+    ("a record on two lines", KEPT + "boats;" + "1 2 3 4;5 6 7 8;", "refused 14 0;"),
+    ("two records on one line", KEPT + "boats;" + "1 2 3 4 5 6 7 8 1 2 3 4 5 6 7 8;", "refused 14 0;"),
+    ("a second line `boats`", KEPT + "boats;" + boats(1) + "boats;" + boats(2), "refused 14 0;"),
+    ("a second line `boats` at once", KEPT + "boats;boats;", "refused 14 0;"),
+    ("a line of the sheet behind `boats`", KEPT + "boats;" + boats(1) + "addc 1 0;", "refused 14 0;"),
+    ("no line `boats`", KEPT, "refused 14 0;"),
+    ("a line `boats` without its byte 10", KEPT + "boats", "refused 2 3;"),
+    ("a line `box` before `boats`", KEPT + "box;boats;" + boats(1), "refused 2 3;"),
+    ("a line `box` for `boats`", KEPT + "box;" + boats(1), "refused 2 3;"),
+    ("no sheet", "boats;" + boats(1), "refused 2 1;"),
+    ("empty input", "", "refused 2 1;"),
+    ("no operation", "factors 2;boats;" + boats(1), "refused 4 1;"),
+    ("loading ahead of the boats", "factors 1;inv 7;boats;x;", "refused 5 2;"),
+    ("sheet of 4,096 bytes", "x" * 4095 + ";boats;" + boats(1), "refused 2 1;"),
+    ("sheet of 4,097 bytes", "x" * 4096 + ";boats;" + boats(1), "refused 1 0;"),
+    ("the longest sheet", LONGEST + "boats;" + boats(0), page(1, 0, 0, 0, 1, 0, 0, 0)),
+]
+
+REPORTED = [(name, text(given), text(expected)) for name, given, expected in FLEET]

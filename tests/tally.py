@@ -4,6 +4,7 @@ import subprocess
 from collections import Counter
 
 DIFFERENCES_SHOWN = 5
+BYTES_SHOWN = 9000  # of one input, from its start
 TIMES_CAUGHT = 3  # a wrong rule is no longer tried once it was told from the right one this often
 
 
@@ -26,7 +27,8 @@ class Tally:
             self.passed += 1
             return
         if self.failed < DIFFERENCES_SHOWN:
-            print(f"{name}: input\n{text.decode('latin-1')}\n{complaint}")
+            more = f"... {len(text)} bytes" if len(text) > BYTES_SHOWN else ""
+            print(f"{name}: input\n{text[:BYTES_SHOWN].decode('latin-1')}{more}\n{complaint}")
         self.failed += 1
 
     def catch_errors(self, ours, of_wrong):
@@ -39,10 +41,14 @@ class Tally:
         for rule in rules:
             print(f"{self.met[rule]:9}  {rule}")
 
+    def least(self, rule):
+        """How often a rule has to be met."""
+        return 1
+
     def missed(self):
-        """What was never met, and what was met under a name that is not in the list."""
-        missed = [rule for rule in self.rules if not self.met[rule]]
-        missed += [f"told from the right rules: {wrong.__doc__}" for wrong in self.errors if not self.caught[wrong]]
+        """What was met too seldom, and what was met under a name that is not in the list."""
+        missed = [f"met {self.met[rule]} times, and not {self.least(rule)}: {rule}" for rule in self.rules if self.met[rule] < self.least(rule)]
+        missed += [f"never told from the right rules: {wrong.__doc__}" for wrong in self.errors if not self.caught[wrong]]
         return missed + [f"not in the list of rules: {rule}" for rule in sorted(set(self.met) - set(self.rules))]
 
 

@@ -17,12 +17,13 @@ class Outcome(NamedTuple):
     answer: Union[Result, Refusal]
 
 
-def parted(text):
-    """The sheet's bytes, and the box lines' bytes or None: "the first line `box` that has its byte 10" parts them."""
-    if text.startswith(b"box\n"):
-        return b"", text[4:]
-    before, box, after = text.partition(b"\nbox\n")
-    return (before + b"\n", after) if box else (text, None)
+def parted(text, word=b"box"):
+    """The sheet's bytes, and the bytes behind the parting line or None: "the first line `box` that has its byte 10" parts them."""
+    line = word + b"\n"
+    if text.startswith(line):
+        return b"", text[len(line):]
+    before, parting, after = text.partition(b"\n" + line)
+    return (before + b"\n", after) if parting else (text, None)
 
 
 def box_ends(text, note=unnoted):
