@@ -37,12 +37,19 @@ greatest→ = 103 ∷ 114 ∷ 101 ∷ 97 ∷ 116 ∷ 101 ∷ 115 ∷ 116 ∷ 9 �
 
 -- ════ the texts ════
 
--- THE TEXT OF A REPORT of so many boats: `boats→k`, `accepted→k`, `range→k`, `divisor→k`, `limit→k`, `low→sum`, `high→sum`,
--- `greatest→position`
+-- `boats→k`, `accepted→k`, `range→k`, `divisor→k`, `limit→k`
+unfoldable pub countLines : ℕ → Report → List ℕ
+countLines k r =
+    lineOfOne boats→ k
+    ++ (lineOfOne accepted→ (r .accepted) ++ (lineOfOne range→ (r .range) ++ (lineOfOne divisor→ (r .divisor) ++ lineOfOne limit→ (r .limit))))
+
+-- `low→sum`, `high→sum`, `greatest→position`
+unfoldable pub sumLines : Report → List ℕ
+sumLines r = lineOfWhole low→ (r .low) ++ (lineOfWhole high→ (r .high) ++ lineOfOne greatest→ (r .greatest))
+
+-- THE TEXT OF A REPORT of so many boats
 unfoldable pub reportText : ℕ → Report → List ℕ
-reportText k r =
-    lineOfOne boats→ k ++ (lineOfOne accepted→ (r .accepted) ++ (lineOfOne range→ (r .range) ++ (lineOfOne divisor→ (r .divisor)
-    ++ (lineOfOne limit→ (r .limit) ++ (lineOfWhole low→ (r .low) ++ (lineOfWhole high→ (r .high) ++ lineOfOne greatest→ (r .greatest)))))))
+reportText k r = countLines k r ++ sumLines r
 
 -- THE TEXT OF A REFUSAL: the writer's
 unfoldable pub refusalText : Refusal → List ℕ

@@ -5,7 +5,7 @@ ghost use Rattle.writer.specs.Lent.{lent, putText};
 ghost use Rattle.text.specs.Input.{sheetLength};
 ghost use Rattle.text.specs.Answer.{written};
 ghost use Rattle.fleet_text.specs.Input.{boats, boatsIn};
-ghost use Rattle.fleet_text.specs.Output.{reportText, refusalText, countedText};
+ghost use Rattle.fleet_text.specs.Output.{countLines, sumLines, reportText, refusalText, countedText};
 ghost use Rattle.fleet_text.specs.Answer.{pageText, answerOf};
 ghost use Rattle.fleet_text.specs.Views.{Within, recordsOf};
 use boats::Counted;
@@ -28,18 +28,32 @@ pub enum Form {
     Structs,
 }
 
-// The text of a report of so many boats.
-fn report(bytes: &mut [u8], at: usize, count: usize, r: Report) -> usize
-    ensures { λ o. ⌜ lent (now (bytes .exit)) o ≡ putText (lent (now (bytes .entry)) at) (reportText count r) ⌝ }
+// The lines of the counts.
+fn count_lines(bytes: &mut [u8], at: usize, count: usize, r: Report) -> usize
+    ensures { λ o. ⌜ lent (now (bytes .exit)) o ≡ putText (lent (now (bytes .entry)) at) (countLines count r) ⌝ }
 {
     let mut to = writer::line_of_one(bytes, at, b"boats\t", count as u64);
     to = writer::line_of_one(bytes, to, b"accepted\t", r.accepted);
     to = writer::line_of_one(bytes, to, b"range\t", r.range);
     to = writer::line_of_one(bytes, to, b"divisor\t", r.divisor);
-    to = writer::line_of_one(bytes, to, b"limit\t", r.limit);
-    to = writer::line_of_whole(bytes, to, b"low\t", r.low);
+    writer::line_of_one(bytes, to, b"limit\t", r.limit)
+}
+
+// The lines of the sums and of the greatest high end.
+fn sum_lines(bytes: &mut [u8], at: usize, r: Report) -> usize
+    ensures { λ o. ⌜ lent (now (bytes .exit)) o ≡ putText (lent (now (bytes .entry)) at) (sumLines r) ⌝ }
+{
+    let mut to = writer::line_of_whole(bytes, at, b"low\t", r.low);
     to = writer::line_of_whole(bytes, to, b"high\t", r.high);
     writer::line_of_one(bytes, to, b"greatest\t", r.greatest)
+}
+
+// The text of a report of so many boats.
+fn report(bytes: &mut [u8], at: usize, count: usize, r: Report) -> usize
+    ensures { λ o. ⌜ lent (now (bytes .exit)) o ≡ putText (lent (now (bytes .entry)) at) (reportText count r) ⌝ }
+{
+    let counted = count_lines(bytes, at, count, r);
+    sum_lines(bytes, counted, r)
 }
 
 // The text of a refusal.
