@@ -109,7 +109,7 @@ same-page e xs h =
 
 -- ---- a page that is reported
 module _ (e : Engine) (r : Ratable (e .codelist)) where
-  report-of : (bs : List (List ℤ)) → ¬ (1000 < length bs) → fleetOf e bs ≡ reported (reportOf e bs)
+  pub report-of : (bs : List (List ℤ)) → ¬ (1000 < length bs) → fleetOf e bs ≡ reported (reportOf e bs)
   report-of bs h = page-of e bs ∙ rw (decides (e .codelist) .1 r, le-leb (length bs) 1000 (omega (arith, h)))
 
   all-counted : (bs : List (List ℤ)) → Eights bs → ¬ (1000 < length bs)

@@ -1,11 +1,11 @@
 -- The boats laid out flat: eight numbers each, one after another; and the page of these numbers. Assumes nothing.
-use Prim.Native.Nat.{ℕ, suc, zero, _+_, _*_, _/_, _%_, _≤_, _<_}
-use mathlib.Core.List.{List, [], _∷_, _++_, map, map-append, append-assoc, append-nil}
+use Prim.Native.Nat.{ℕ, suc, _+_, _*_, _/_, _%_, _≤_, _<_}
+use mathlib.Core.List.{List, [], _∷_, _++_, map-append, append-assoc, append-nil}
 use mathlib.Core.Path.{_≡_, refl, sym, ap, _∙_}
 use native.Mathlib.Numerals.{add-one}
 use native.Mathlib.Omega.{arith}
 use lib.IntN.{ℤ, pos}
-use lib.ListN.{length, getD, take, drop, set, replicate, length-set, length-append, length-map}
+use lib.ListN.{length, getD, take, set, replicate, length-set, length-append, length-map}
 use lib.Seq.{take-all, take-suc, take-suc-set, take-at, drop-at, length-take-le}
 use Rattle.engine.specs.declared.Engine.{Engine}
 use Rattle.boats.specs.declared.Boat.{Boat}
@@ -20,7 +20,7 @@ concat-last : (bs : List (List ℤ)) (b : List ℤ) → concat (bs ++ (b ∷ [])
 concat-last [] b = append-nil b
 concat-last (c ∷ bs) b = ap (λ (l : List ℤ). c ++ l) (concat-last bs b) ∙ sym (append-assoc c (concat bs) b)
 
-eights-last : (bs : List (List ℤ)) (b : List ℤ) → Eights bs → length b ≡ 8 → Eights (bs ++ (b ∷ []))
+pub eights-last : (bs : List (List ℤ)) (b : List ℤ) → Eights bs → length b ≡ 8 → Eights (bs ++ (b ∷ []))
 eights-last [] b e h = (h, tt)
 eights-last (c ∷ bs) b e h = (e .0, eights-last bs b (e .1) h)
 

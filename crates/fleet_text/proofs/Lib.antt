@@ -3,3 +3,5 @@ pub mod Front
 pub mod Reading
 pub mod Flat
 pub mod Answering
+pub mod Cut
+pub mod Promises

@@ -3,4 +3,5 @@
 pub mod Input
 pub mod Output
 pub mod Answer
+pub mod Promises
 pub mod Views

@@ -1,13 +1,13 @@
 -- `forms::by_numbers` meets its contract: the page of the boats laid out flat, and every one is the same. Assumes nothing.
 use Prim.Native.Nat.{_*_, _-_}
-use mathlib.Core.Path.{_≡_, sym, ap, _∙_}
+use mathlib.Core.Path.{_≡_, sym, _∙_}
 use native.Mathlib.Omega.{arith}
 use lib.ListN.{length, take, length-map}
 use lib.Seq.{length-take-le}
 use borrow.Author.Needs.{needs}
 use Rattle.boats.specs.declared.Boat.{Boat}
 use Rattle.boats.specs.Boats.{numbersOf}
-use Rattle.boats.specs.Fleet.{fleetOf, fleetOfNumbers}
+use Rattle.boats.specs.Fleet.{fleetOfNumbers}
 use Rattle.fleet_text.proofs.Flat.{flat-page}
 use Rattle.fleet_text.proofs.forms.by_numbers.Statement.{statement}
 use Rattle.fleet_text.proofs.forms.by_numbers.Tie as tie
