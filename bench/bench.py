@@ -1,13 +1,19 @@
 #!/usr/bin/env python3
-"""Times ratings of the proved engine beside plain C on the sheets of bench/sheets.
+"""Times ratings of the proved engine beside plain C, and pages of boats beside ratings, on the sheets of bench/sheets.
 
 bench/bench.py PATH_TO_RATE_MANY [PATH_TO_AN_EARLIER_ONE]
+bench/bench.py --pages PATH_TO_RATE_MANY
 
 PATH N < SHEET loads the sheet once and rates it N times; bench/reference.c, built here with cc -O3, does the same. Both run in turn.
 Nanoseconds are the least processor time of all rounds, and the ratio is that of the two; the median is that of the rounds' own ratios, which a busy
 machine moves. Both are printed, since they differ. A run of one rating is taken off, so that starting and loading do not count. An earlier build is
 timed beside the engine in the same way, sheet by sheet; what it prints is not compared, since its rules may be those of earlier requests.
+
+PATH N numbers < FLEET and PATH N boats < FLEET read a sheet and its boats once and make the fleet page N times (02, request 3), from a flat slice of
+numbers and from a slice of structs. A page of 1,000 boats is timed in the same way, beside ratings of the middle of the class, a class of one point.
+--pages times the pages alone.
 """
+import argparse
 import os
 import shutil
 import statistics
@@ -23,6 +29,11 @@ BENCH = Path(__file__).resolve().parent
 SHEETS = BENCH / "sheets"
 ROUNDS = 20
 LONG_RUN = 0.04  # seconds a long run should take
+FORMS = {"numbers": "numbers", "structs": "boats"}  # the forms of a list of boats, and the job of each
+RECORD = 8  # numbers of a boat
+BOATS = 1000  # of a page
+MOST_PER_BOAT = 1.1  # the bar: the time of a boat on a page, in plain ratings of the same point
+STEPS = (1, 3, 7, 9, 11, 13, 17, 19)  # a factor each, none with a divisor in common with BOATS
 
 
 def build(folder):
@@ -35,10 +46,10 @@ def build(folder):
     return program
 
 
-def run(program, times, sheet):
+def run(program, times, sheet, *job):
     """Processor seconds of one run, and what it printed."""
     with open(sheet, "rb") as given, tempfile.TemporaryFile() as printed:
-        process = subprocess.Popen([program, str(times)], stdin=given, stdout=printed)
+        process = subprocess.Popen([program, str(times), *job], stdin=given, stdout=printed)
         _, status, used = os.wait4(process.pid, 0)
         process.returncode = os.waitstatus_to_exitcode(status)
         if process.returncode != 0:
@@ -64,23 +75,23 @@ def peak_memory(program, sheet, times):
 
 
 class Timed:
-    """One program on one sheet."""
+    """One program on one sheet, with the job that its second argument names, if it has one."""
 
-    def __init__(self, program, sheet):
-        self.program, self.sheet = program, sheet
+    def __init__(self, program, sheet, *job):
+        self.program, self.sheet, self.job = program, sheet, job
         self.times = 64
-        while (used := run(program, self.times, sheet)[0]) < LONG_RUN / 4 and self.times < 1 << 26:
+        while (used := run(program, self.times, sheet, *job)[0]) < LONG_RUN / 4 and self.times < 1 << 26:
             self.times *= 4
         self.times = max(2, int(self.times * LONG_RUN / max(used, 1e-4)))
         self.short, self.long, self.printed = [], [], b""
 
     def round(self):
-        self.short.append(run(self.program, 1, self.sheet)[0])
-        used, self.printed = run(self.program, self.times, self.sheet)
+        self.short.append(run(self.program, 1, self.sheet, *self.job)[0])
+        used, self.printed = run(self.program, self.times, self.sheet, *self.job)
         self.long.append(used)
 
     def nanoseconds(self):
-        """Per rating, for each round."""
+        """Per rating or page, for each round."""
         start = min(self.short)
         return [max(used - start, 1e-9) / (self.times - 1) * 1e9 for used in self.long]
 
@@ -128,9 +139,13 @@ def table(title, sheets, engine, plain, other="C"):
     return rows
 
 
+def geometric_mean(ratios):
+    return exp(statistics.fmean(map(log, ratios)))
+
+
 def means(rows):
     for name in ("ratio", "median"):
-        print(f"  geometric mean of the {name}s: {exp(statistics.fmean(log(getattr(row, name)) for row in rows)):.3f}")
+        print(f"  geometric mean of the {name}s: {geometric_mean(getattr(row, name) for row in rows):.3f}")
 
 
 def fits(rows, size, other="C"):
@@ -142,29 +157,123 @@ def fits(rows, size, other="C"):
         print(f"  {name}: {start:.0f} ns + {slope:.1f} ns for each of the {size}, R² {nearness:.4f}")
 
 
+def rating_tables(all_sheets, classes, engine, earlier, folder):
+    plain = build(folder)
+    by_lines = [sheet for sheet in all_sheets if sheet.stem.startswith("growth-lines-")]
+    by_factors = [sheet for sheet in all_sheets if sheet.stem.startswith("growth-factors-")]
+
+    if earlier:
+        before = earlier.resolve()
+        means(table("Beside the earlier build, nanoseconds per rating", classes, engine, before, "earlier"))
+        fits(table("Beside the earlier build, growth with the factors", by_factors, engine, before, "earlier"), "factors", "earlier")
+    means(table("Classes, nanoseconds per rating", classes, engine, plain))
+    fits(table("Growth with the lines, 4 factors", by_lines, engine, plain), "lines")
+    fits(table("Growth with the factors, 32 lines", by_factors, engine, plain), "factors")
+
+    largest = max(classes, key=lambda sheet: shape(sheet)[::-1])
+    print(f"\nPeak memory on {largest.stem}")
+    for name, program in (("engine", engine), ("C", plain)):
+        times = Timed(program, largest).times
+        print(f"  {name}: {peak_memory(program, largest, 4 * times)} KiB")
+
+
+def box(sheet):
+    """The ends of a sheet's ranges, a pair for each factor."""
+    return [tuple(map(int, line.split("\t"))) for line in sheet.read_text().split("box\n")[1].splitlines()]
+
+
+def middle(ends):
+    return [(low + high) // 2 for low, high in ends]
+
+
+def alike(ends):
+    """The middle of the ranges, as often as a page has boats."""
+    return [middle(ends)] * BOATS
+
+
+def spread(ends):
+    """Boats all over the ranges: each factor takes evenly spaced values from end to end, each value once, in an order of its own."""
+    return [[low + (high - low) * (k * step % BOATS) // (BOATS - 1) for step, (low, high) in zip(STEPS, ends)] for k in range(BOATS)]
+
+
+def written(sheet, word, records, path):
+    """A sheet's formula with other lines behind it, in a file: a line with the word, then the numbers of each record."""
+    formula = sheet.read_text().split("box\n")[0]
+    path.write_text(formula + word + "\n" + "".join("\t".join(map(str, record)) + "\n" for record in records))
+    return path
+
+
+class Pages:
+    """Ratings of the middle of a sheet's ranges, and pages of boats by either form of the list."""
+
+    def __init__(self, engine, sheet, listed, folder):
+        self.sheet, ends = sheet, box(sheet)
+        point = written(sheet, "box", [(value, value) for value in middle(ends)], Path(folder) / f"{sheet.stem}-point.txt")
+        boats = [boat + [0] * (RECORD - len(boat)) for boat in listed(ends)]
+        page = written(sheet, "boats", boats, Path(folder) / f"{sheet.stem}-boats.txt")
+        self.rating, self.forms = Timed(engine, point), [Timed(engine, page, job) for job in FORMS.values()]
+
+    def round(self):
+        for timed in (self.rating, *self.forms):
+            timed.round()
+        if len({form.printed for form in self.forms}) != 1:
+            sys.exit(f"{self.sheet.name}: the forms print different pages")
+
+    def accepted(self):
+        printed = self.forms[0].printed.decode()
+        figures = dict(line.split("\t", 1) for line in printed.splitlines())
+        if figures.get("boats") != str(BOATS):
+            sys.exit(f"{self.sheet.name}: no page of {BOATS} boats, but {printed}")
+        return int(figures["accepted"])
+
+    def rows(self):
+        """For each form the nanoseconds of a boat beside those of a rating."""
+        plain = self.rating.nanoseconds()
+        for form in self.forms:
+            boat = [page / BOATS for page in form.nanoseconds()]
+            median = statistics.median(x / y for x, y in zip(boat, plain))
+            yield Row(*shape(self.sheet), min(boat), min(plain), min(boat) / min(plain), median)
+
+
+def page_table(title, sheets, engine, listed, folder):
+    """The table of the boats that `listed` makes of each sheet's ranges, and its rows by form. All run in turn, as in `measure`."""
+    print(f"\n{title}\n{'sheet':<12}{'factors':>8}{'lines':>6}{'accepted':>9}{'rating ns':>10}", end="")
+    print("".join(f"{form + ' ns':>12}{'ratio':>7}{'page ms':>8}" for form in FORMS), flush=True)
+    timed = [Pages(engine, sheet, listed, folder) for sheet in sheets]
+    for _ in range(ROUNDS):
+        for each in timed:
+            each.round()
+    table_rows = [list(each.rows()) for each in timed]
+    for each, rows in zip(timed, table_rows):
+        print(f"{each.sheet.stem:<12}{rows[0].factors:>8}{rows[0].lines:>6}{each.accepted():>9}{rows[0].plain:>10.0f}", end="")
+        print("".join(f"{row.engine:>12.0f}{row.ratio:>7.3f}{row.engine * BOATS / 1e6:>8.3f}" for row in rows))
+    return zip(FORMS, zip(*table_rows))
+
+
+def page_tables(sheets, engine, folder):
+    for form, rows in page_table(f"Pages of {BOATS:,} boats, all the middle of the class, beside a rating of it", sheets, engine, alike, folder):
+        print(f"{form}: {'at most' if geometric_mean(row.ratio for row in rows) <= MOST_PER_BOAT else 'ABOVE'} {MOST_PER_BOAT} ratings a boat")
+        means(rows)
+    for form, rows in page_table(f"Pages of {BOATS:,} boats all over the class, beside a rating of its middle", sheets, engine, spread, folder):
+        print(f"{form}:")
+        means(rows)
+
+
 def main():
-    if len(sys.argv) not in (2, 3):
-        sys.exit(__doc__)
-    engine, *earlier = [Path(argument).resolve() for argument in sys.argv[1:]]
+    parser = argparse.ArgumentParser(description=__doc__, formatter_class=argparse.RawDescriptionHelpFormatter)
+    parser.add_argument("engine", metavar="PATH_TO_RATE_MANY", type=Path)
+    parser.add_argument("earlier", metavar="PATH_TO_AN_EARLIER_ONE", type=Path, nargs="?")
+    parser.add_argument("--pages", action="store_true", help="pages of boats alone")
+    arguments = parser.parse_args()
+    if arguments.pages and arguments.earlier:
+        parser.error("--pages takes no earlier build: it would have to know the fleet page")
+    engine = arguments.engine.resolve()
+    all_sheets = sorted(SHEETS.glob("*.txt"), key=lambda sheet: (shape(sheet), sheet.stem))
+    classes = [sheet for sheet in all_sheets if not sheet.stem.startswith("growth-")]
     with tempfile.TemporaryDirectory() as folder:
-        plain = build(folder)
-        all_sheets = sorted(SHEETS.glob("*.txt"), key=lambda sheet: (shape(sheet), sheet.stem))
-        classes = [sheet for sheet in all_sheets if not sheet.stem.startswith("growth-")]
-        by_lines = [sheet for sheet in all_sheets if sheet.stem.startswith("growth-lines-")]
-        by_factors = [sheet for sheet in all_sheets if sheet.stem.startswith("growth-factors-")]
-
-        for before in earlier:
-            means(table("Beside the earlier build, nanoseconds per rating", classes, engine, before, "earlier"))
-            fits(table("Beside the earlier build, growth with the factors", by_factors, engine, before, "earlier"), "factors", "earlier")
-        means(table("Classes, nanoseconds per rating", classes, engine, plain))
-        fits(table("Growth with the lines, 4 factors", by_lines, engine, plain), "lines")
-        fits(table("Growth with the factors, 32 lines", by_factors, engine, plain), "factors")
-
-        largest = max(classes, key=lambda sheet: shape(sheet)[::-1])
-        print(f"\nPeak memory on {largest.stem}")
-        for name, program in (("engine", engine), ("C", plain)):
-            times = Timed(program, largest).times
-            print(f"  {name}: {peak_memory(program, largest, 4 * times)} KiB")
+        if not arguments.pages:
+            rating_tables(all_sheets, classes, engine, arguments.earlier, folder)
+        page_tables(classes, engine, folder)
 
 
 if __name__ == "__main__":

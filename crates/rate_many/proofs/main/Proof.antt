@@ -2,15 +2,11 @@
 use mathlib.Core.Path.{sym}
 use lib.Seq.{length-take-le}
 use borrow.Author.Needs.{needs}
-use Rattle.text.proofs.Writing.{written-fits}
 use Rattle.rate_many.proofs.main.Statement.{statement}
 use Rattle.rate_many.proofs.main.Tie as tie
 
-array-share-prefix-bytes : tie.Need-array-share-prefix-bytes
-array-share-prefix-bytes c = written-fits _ _ (c .before .answer-after .ensures)
-
 slice-aggregate-write-all : tie.Need-slice-aggregate-write-all
-slice-aggregate-write-all c = sym (length-take-le _ _ (written-fits _ _ (c .before .before .answer-after .ensures)))
+slice-aggregate-write-all c = sym (length-take-le _ _ (c .before .before .answer .ensures))
 
 pub main-spec : {M : Type 1} → statement M
 main-spec =
@@ -24,9 +20,13 @@ main-spec =
     (λ c. search needs)
     (λ c κs. search needs)
     (λ c. search needs)
+    (λ c κs. search needs)
+    (λ c. search needs)
+    (λ c. search needs)
+    (λ c. search needs)
     (λ c. search needs)
     (λ c κs. search needs)
-    array-share-prefix-bytes
+    (λ c. search needs)
     slice-aggregate-write-all
     (λ c κs. search needs)
     (λ c. search needs))
