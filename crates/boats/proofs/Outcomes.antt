@@ -1,7 +1,7 @@
 -- What each outcome of a page is for. Assumes nothing.
 use mathlib.Core.Path.{_≡_, refl}
 use mathlib.Core.Bool.{Bool, true, false, cond, _&&_}
-use mathlib.Core.List.{List}
+use mathlib.Core.List.{List, List·Memᴰ, List·Memᴰ·head, List·Memᴰ·tail}
 use mathlib.Core.Logic.{_↔_, inl, inr}
 use Prim.Native.Nat.{ℕ, _%_}
 use native.Mathlib.Omega.{arith}
@@ -17,7 +17,7 @@ use Rattle.boats.specs.declared.Refusal.{Refusal}
 use Rattle.boats.specs.declared.Refusal.the-variants.{NoCodelist, Boats}
 use Rattle.boats.specs.declared.Outcome.the-variants.{Reported, Refused}
 use Rattle.boats.specs.declared.Counted.{Counted}
-use Rattle.boats.specs.Fleet.{noReport, reported, refused}
+use Rattle.boats.specs.Fleet.{numberOf, fleetNumbers, noReport, reported, refused}
 use Rattle.boats.specs.Promises.{RefusedFor, TooMany, NoRecords}
 use Rattle.boats.proofs.Leading.{clash}
 
@@ -27,6 +27,10 @@ paged r q x = cond r (cond q (reported x) (refused Boats)) (refused NoCodelist)
 
 differ : {A : Type 0} → _≡_ {A = ℕ} 0 1 → A
 differ z = let f : ⊥ = omega arith in absurd f
+
+pub listed-number : (f : Refusal) → List·Memᴰ (numberOf f) fleetNumbers
+listed-number NoCodelist = List·Memᴰ·head refl
+listed-number Boats = List·Memᴰ·tail (List·Memᴰ·head refl)
 
 -- after a refusal every figure is 0
 pub paged-zero : (r q : Bool) (x : Report) (f : Refusal) → paged r q x .outcome ≡ Refused f → paged r q x .report ≡ noReport

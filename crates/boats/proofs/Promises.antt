@@ -24,7 +24,7 @@ use Rattle.boats.proofs.Tally.{tallied, count-cons}
 use Rattle.boats.proofs.Leading.{clash, Best, best, position-is}
 use Rattle.boats.proofs.Walked.{length-records, all-eight, boats-fit}
 use Rattle.boats.proofs.Counts.{counted, low-small, high-small, are-joined}
-use Rattle.boats.proofs.Outcomes.{paged, paged-zero, page-listed, page-otherwise, numbers-listed, numbers-otherwise}
+use Rattle.boats.proofs.Outcomes.{paged, listed-number, paged-zero, page-listed, page-otherwise, numbers-listed, numbers-otherwise}
 use Rattle.boats.proofs.Income.{premium-is, income}
 
 -- ---- the report of a page is that of its boats, or has no figures
@@ -132,6 +132,7 @@ fleet-figures = record {
   reported-else = λ e bs. page-otherwise (e .codelist) bs (reportOf e bs);
   numbers-refused-listed = λ e xs r. numbers-listed (e .codelist) xs (reportOf e (records xs)) r;
   numbers-reported-else = λ e xs. numbers-otherwise (e .codelist) xs (reportOf e (records xs));
+  numbers = listed-number;
   refused-zero = λ e bs r. paged-zero (ratable (e .codelist)) (leb (length bs) 1000) (reportOf e bs) r;
   numbers-refused-zero = λ e xs r. paged-zero (ratable (e .codelist)) (leb (length xs) 8000 && eqb (length xs % 8) 0) (reportOf e (records xs)) r;
   greatest-none = λ e bs.

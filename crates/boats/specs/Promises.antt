@@ -2,7 +2,7 @@
 -- quotation marks are those of 02, request 3.
 use mathlib.Core.Path.{_≡_}
 use mathlib.Core.Bool.{true, cond}
-use mathlib.Core.List.{List, [], _∷_, _++_, map}
+use mathlib.Core.List.{List, [], _∷_, _++_, map, List·Memᴰ}
 use mathlib.Core.Logic.{_⊎_, _↔_}
 use mathlib.Core.Option.{Option, none, some}
 use Prim.Native.Nat.{ℕ, suc, _+_, _%_, _≤_, _<_}
@@ -22,7 +22,7 @@ use Rattle.boats.specs.declared.Outcome.the-variants.{Reported, Refused}
 use Rattle.boats.specs.declared.Report.{Report}
 use Rattle.boats.specs.Boats.{records, boatRating}
 use Rattle.boats.specs.Report.{isAccepted, highEnd, reportOf}
-use Rattle.boats.specs.Fleet.{noReport, reported, fleetOf, fleetOfNumbers}
+use Rattle.boats.specs.Fleet.{numberOf, fleetNumbers, noReport, reported, fleetOf, fleetOfNumbers}
 
 -- Every record has eight numbers: those of numbers (`eights`), and those of structs, whose arrays have eight. A shorter one that has not
 -- the factors' numbers is refused with 8.
@@ -80,6 +80,8 @@ pub record FleetFigures : Type 0 where
   pub numbers-refused-listed : (e : Engine) (xs : List ℤ) (r : Refusal)
       → (fleetOfNumbers e xs .outcome ≡ Refused r) ↔ RefusedFor (e .codelist) (NoRecords xs) r
   pub numbers-reported-else : (e : Engine) (xs : List ℤ) → (fleetOfNumbers e xs .outcome ≡ Reported) ↔ (Ratable (e .codelist) × (¬ (NoRecords xs)))
+  -- the numbers of the refusals, in the order of checking
+  pub numbers : (r : Refusal) → List·Memᴰ (numberOf r) fleetNumbers
   -- after a refusal every figure is 0
   pub refused-zero : (e : Engine) (bs : List (List ℤ)) (r : Refusal) → fleetOf e bs .outcome ≡ Refused r → fleetOf e bs .report ≡ noReport
   pub numbers-refused-zero : (e : Engine) (xs : List ℤ) (r : Refusal) → fleetOfNumbers e xs .outcome ≡ Refused r → fleetOfNumbers e xs .report ≡ noReport
