@@ -2,7 +2,7 @@
 use Prim.Native.Nat.{ℕ, suc, _+_, _≤_, _<_}
 use mathlib.Core.Bool.{Bool, true, false, cond}
 use mathlib.Core.List.{List, [], _∷_, _++_}
-use mathlib.Core.Path.{_≡_, refl, sym, ap, _∙_}
+use mathlib.Core.Path.{_≡_, refl, sym, ap, ap₂, _∙_}
 use native.Mathlib.Decide.{decLe}
 use native.Mathlib.Numerals.{add-one}
 use native.Mathlib.Omega.{arith}
@@ -10,6 +10,7 @@ use lib.Dec.{ltb}
 use lib.ListN.{length, getD, take, drop, set, length-set, take-append-drop, drop-of-length-le}
 use lib.Seq.{drop-cons, sets, sets-eq, take-all, length-take-le}
 use borrow.Author.Tests.{lt-ltb, le-ltb, ltb-true}
+use Rattle.writer.specs.Texts.{refusedText}
 use Rattle.writer.specs.Lent.{Lent, lent, put, putText}
 
 -- no byte more or less
@@ -65,6 +66,10 @@ then-put o p q s b e f = then o p q s (b ∷ []) e f
 pub put-then : (o p q : Lent) (b : ℕ) (t : List ℕ) → p ≡ put o b → q ≡ putText p t → q ≡ putText o (b ∷ t)
 unfolding putText
 put-then o p q b t e f = f ∙ ap (λ (x : Lent). putText x t) e
+
+-- a refusal's line, by what its number and place are
+pub put-refused : (o p : Lent) {n m k l : ℕ} → p ≡ putText o (refusedText n m) → n ≡ k → m ≡ l → p ≡ putText o (refusedText k l)
+put-refused o p e f g = e ∙ ap₂ (λ (a b : ℕ). putText o (refusedText a b)) f g
 
 -- a turn of the loop over a piece w
 pub putText-next : (o : Lent) (w : List ℕ) (i : ℕ) → i < length w → putText (put o (getD w i 0)) (drop (i + 1) w) ≡ putText o (drop i w)

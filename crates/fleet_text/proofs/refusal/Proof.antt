@@ -1,20 +1,13 @@
 -- `fleet_text::refusal` meets its contract. Assumes nothing.
-use mathlib.Core.Path.{ap₂, _∙_}
 use borrow.Author.Needs.{needs}
-use Rattle.writer.specs.Lent.{lent, putText}
-use Rattle.writer.specs.Texts.{refusedText}
+use Rattle.writer.proofs.Writing.{put-refused}
 use Rattle.fleet_text.specs.Output.{refusalText}
 use Rattle.fleet_text.proofs.refusal.Statement.{statement}
 use Rattle.fleet_text.proofs.refusal.Tie as tie
 
 returns : tie.Need-returns
 unfolding refusalText
-returns c =
-    let w = c .before .before in
-    let p = w .before .before in
-    let a = p .before .before .before .args in
-    w .refusal .ensures
-    ∙ ap₂ (λ n m. putText (lent (a .bytes .now) (a .at)) (refusedText n m)) (p .before .number .ensures) (p .place .ensures)
+returns c = let w = c .before .before in let p = w .before .before in put-refused _ _ (w .refusal .ensures) (p .before .number .ensures) (p .place .ensures)
 
 pub refusal-spec : {M : Type 1} → statement M
 refusal-spec =
