@@ -1,7 +1,7 @@
 #!/usr/bin/env python3
 """Compares the programs `rate`, `tidy` and `fleet` with the papers' rules over unlimited whole numbers and exact fractions (tests/reference).
 
-tests/compare.py --binary PATH [--tidy PATH [--tidy-into PATH]] [--fleet PATH] [--seed N] [--count N] [--dead-lines N] [--fleets N]
+tests/compare.py --binary PATH [--tidy PATH [--tidy-into PATH]] [--fleet PATH] [--seed N] [--count N] [--dead-lines N] [--fleets N] [--jobs N]
     `rate`: the figures of the papers, the examples, inputs that two refusals fit, and random ones: every printed byte; the bends beside those
     with each square rounded (02, request 2), which must be no narrower; for a share of the accepted random ones also the exact premium and its
     derivatives, as fractions, at a point inside the ranges
@@ -13,12 +13,17 @@ tests/compare.py --self-test VECTORS [--program NAME]
     else the vector's "kind", or `rate` where that is no program's name
 
 Fails, too, where a rule, a refusal, a wrong rule of errors.py or an order of two refusals (orders.py) was never met, or less often than it has to be
-(fleet_page.py). The same seed gives the same inputs. The closing line counts each input once for each program.
+(fleet_page.py). The same seed gives the same inputs, for any number of processes that they are dealt out to (--jobs). The closing line counts each
+input once for each program.
 """
 import argparse
 import json
+import multiprocessing
+import os
+import pickle
 import random
 import sys
+import tempfile
 from pathlib import Path
 
 import dead_lines
@@ -166,6 +171,10 @@ class Comparison(Tally):
                 self.note(f"12 by {step} alone")
         self.catch_errors(ours, lambda wrong: printed(run(text, wrong).answer))
 
+    def add(self, other):
+        super().add(other)
+        self.given_up += other.given_up
+
     def conclude(self):
         """Prints how often each rule was met."""
         self.show(RULES)
@@ -188,36 +197,55 @@ def narrower(answer, wider):
     return inside and answer[:4] == wider[:4]
 
 
-def inputs(seed, count):
+# The inputs come in two parts: fixed ones, which are there or quickly made together, and random ones, each from a generator of its own, made only
+# where it is in the share. A share is a slice of either part; no input depends on it.
+
+def inputs(seed, count, share):
     """Inputs of `rate`: a name, the bytes, the print where it is written down, and what random points are taken from."""
-    for name, text, expected in FIGURES:
-        yield f"figure '{name}'", text, expected, None
-    for example in sorted(EXAMPLES.glob("*.in")):
-        yield f"example '{example.stem}'", example.read_bytes(), example.with_suffix(".out").read_bytes(), None
-    for number in range(ORDER_ROUNDS):
-        for name, text in cases(random.Random(f"{seed}/order/{number}")):
-            yield f"'{name}', {number}", text, None, None
-    for number in range(count):
+    for name, text, expected in [*fixed_inputs(seed)][share]:
+        yield name, text, expected, None
+    for number in range(count)[share]:
         rng = random.Random(f"{seed}/{number}")
         kind, text = case(rng)
         yield f"case {number} ({kind})", text, None, rng
 
 
-def tidy_inputs(seed, count):
+def fixed_inputs(seed):
+    for name, text, expected in FIGURES:
+        yield f"figure '{name}'", text, expected
+    for example in sorted(EXAMPLES.glob("*.in")):
+        yield f"example '{example.stem}'", example.read_bytes(), example.with_suffix(".out").read_bytes()
+    for number in range(ORDER_ROUNDS):
+        for name, text in cases(random.Random(f"{seed}/order/{number}")):
+            yield f"'{name}', {number}", text, None
+
+
+def tidy_inputs(seed, count, share):
     """Further ones for `tidy`: a name, the bytes with a box, and the tidied sheet where it is written down."""
+    yield from [*fixed_tidy_inputs()][share]
+    for number in range(count)[share]:
+        kind, text = dead_lines.case(random.Random(f"{seed}/dead/{number}"))
+        yield f"case {number} ({kind})", text, None
+
+
+def fixed_tidy_inputs():
     for name, text, expected in TIDIED:
         yield f"figure '{name}'", text, expected
     for example in sorted(EXAMPLES.glob("*.sheet")):
         sheet = example.read_bytes()
         box = box_text([Range(UNIT, 2 * UNIT)] * load(sheet).factors)
         yield f"example '{example.stem}'", sheet + box, example.with_suffix(".tidied").read_bytes()
-    for number in range(count):
-        kind, text = dead_lines.case(random.Random(f"{seed}/dead/{number}"))
+
+
+def fleet_inputs(seed, count, share):
+    """Inputs of `fleet`: a name, the bytes, and the print where it is written down."""
+    yield from [*fixed_fleet_inputs(seed)][share]
+    for number in range(count)[share]:
+        kind, text = fleets.case(random.Random(f"{seed}/fleet/{number}"))
         yield f"case {number} ({kind})", text, None
 
 
-def fleet_inputs(seed, count):
-    """Inputs of `fleet`: a name, the bytes, and the print where it is written down."""
+def fixed_fleet_inputs(seed):
     for name, text, expected in REPORTED:
         yield f"figure '{name}'", text, expected
     for example in sorted(EXAMPLES.glob("*.fleet")):
@@ -225,9 +253,6 @@ def fleet_inputs(seed, count):
     for number in range(FLEET_ROUNDS):
         for name, text in fleets.cases(random.Random(f"{seed}/list/{number}")):
             yield f"'{name}', {number}", text, None
-    for number in range(count):
-        kind, text = fleets.case(random.Random(f"{seed}/fleet/{number}"))
-        yield f"case {number} ({kind})", text, None
 
 
 PRINTS = {
@@ -264,6 +289,7 @@ def main():
     parser.add_argument("--count", type=int, default=6000, help="random inputs, beside the figures")
     parser.add_argument("--dead-lines", type=int, default=1500, help="random inputs with dead lines, where `tidy` is compared")
     parser.add_argument("--fleets", type=int, default=600, help="random lists of boats, where `fleet` is compared")
+    parser.add_argument("--jobs", type=int, default=os.cpu_count() or 1, help="processes that the inputs are dealt out to")
     parser.add_argument("--self-test", metavar="VECTORS")
     parser.add_argument("--program", choices=PRINTS, help="whose vectors they are, if not their kind's")
     arguments = parser.parse_args()
@@ -274,21 +300,60 @@ def main():
     for path in (arguments.binary, arguments.tidy, arguments.tidy_into, arguments.fleet):
         if path and not Path(path).is_file():
             parser.error(f"no program {path}")
+    if arguments.jobs < 1:
+        parser.error("--jobs: at least 1")
+    sys.exit(not concluded(compared(arguments, slice(None)) if arguments.jobs == 1 else added_up(arguments)))
+
+
+def compared(arguments, share):
+    """The comparisons, with a share of the inputs."""
     rating = Comparison(Path(arguments.binary).resolve())
     into = Path(arguments.tidy_into).resolve() if arguments.tidy_into else None
     tidying = TidyComparison(Path(arguments.tidy).resolve(), rating.binary, into) if arguments.tidy else None
-    for name, text, expected, rng in inputs(arguments.seed, arguments.count):
+    for name, text, expected, rng in inputs(arguments.seed, arguments.count, share):
         outcome = rating.compare(name, text, expected, rng)
         if tidying:
             tidying.compare(name, text, outcome, rng=rng)
     if tidying:
-        for name, text, expected in tidy_inputs(arguments.seed, arguments.dead_lines):
+        for name, text, expected in tidy_inputs(arguments.seed, arguments.dead_lines, share):
             tidying.compare(name, text, rating.compare(name, text), expected)
     paging = FleetComparison(Path(arguments.fleet).resolve()) if arguments.fleet else None
     if paging:
-        for name, text, expected in fleet_inputs(arguments.seed, arguments.fleets):
+        for name, text, expected in fleet_inputs(arguments.seed, arguments.fleets, share):
             paging.compare(name, text, expected)
-    sys.exit(not concluded([comparison for comparison in (rating, tidying, paging) if comparison]))
+    return [comparison for comparison in (rating, tidying, paging) if comparison]
+
+
+def added_up(arguments):
+    """The comparisons with all the inputs, dealt out to processes in turn. Where one of them fails, or is killed, so does the run."""
+    context = multiprocessing.get_context("fork")
+    started = []
+    for first in range(arguments.jobs):
+        file = tempfile.TemporaryFile()
+        process = context.Process(target=write_compared, args=(file, arguments, slice(first, None, arguments.jobs)), daemon=True)
+        process.start()
+        started.append((process, file))
+    comparisons = []
+    for process, file in started:
+        process.join()
+        if process.exitcode != 0:
+            sys.exit(f"a process of the comparison ended with {process.exitcode}")
+        file.seek(0)
+        comparisons.append(pickle.load(file))
+    total, *others = comparisons
+    for other in others:
+        for comparison, more in zip(total, other):
+            comparison.add(more)
+    for comparison in total:
+        comparison.show_kept()
+    return total
+
+
+def write_compared(file, arguments, share):
+    """What one of several processes does. A file takes any number of bytes, so that the process ends whether or not it is waited for."""
+    Tally.at_once = False
+    with file:
+        pickle.dump(compared(arguments, share), file)
 
 
 def concluded(comparisons):

@@ -2,21 +2,24 @@
 import signal
 import subprocess
 from collections import Counter
+from operator import itemgetter
 
 DIFFERENCES_SHOWN = 5
 BYTES_SHOWN = 9000  # of one input, from its start
-TIMES_CAUGHT = 3  # a wrong rule is no longer tried once it was told from the right one this often
+TIMES_CAUGHT = 3  # a wrong rule is no longer tried, by one process, once it was told from the right one this often
 
 
 class Tally:
     """One comparison's count. `rules` names all that has to be met, `errors` the wrong rules that have to be told from the right ones."""
     rules = []
     errors = []
+    at_once = True  # whether a difference is shown when it is found, or kept until the tallies of several processes are added up
 
     def __init__(self):
         self.met = Counter()
         self.caught = Counter()
         self.passed = self.failed = 0
+        self.kept = []  # differences, each behind the number of inputs that came before it
 
     def note(self, rule):
         self.met[rule] += 1
@@ -28,8 +31,25 @@ class Tally:
             return
         if self.failed < DIFFERENCES_SHOWN:
             more = f"... {len(text)} bytes" if len(text) > BYTES_SHOWN else ""
-            print(f"{name}: input\n{text[:BYTES_SHOWN].decode('latin-1')}{more}\n{complaint}")
+            shown = f"{name}: input\n{text[:BYTES_SHOWN].decode('latin-1')}{more}\n{complaint}"
+            if self.at_once:
+                print(shown)
+            else:
+                self.kept.append((self.passed + self.failed, shown))
         self.failed += 1
+
+    def add(self, other):
+        """The tally of another process, over other inputs."""
+        self.met.update(other.met)
+        self.caught.update(other.caught)
+        self.passed += other.passed
+        self.failed += other.failed
+        self.kept += other.kept
+
+    def show_kept(self):
+        """The first of the differences that were kept. The processes took the inputs in turn, so that this is nearly the order of the inputs."""
+        for _, shown in sorted(self.kept, key=itemgetter(0))[:DIFFERENCES_SHOWN]:
+            print(shown)
 
     def catch_errors(self, ours, of_wrong):
         """Which wrong rules come to another print than the right ones."""
