@@ -78,6 +78,8 @@ leads rs r = isAccepted r && all (atMost r) rs
 
 -- ════ THE REPORT ════
 
+-- "the number accepted, the number refused under each of 9, 11 and 12, the exact sums of the low and of the high value ends of accepted boats,
+-- and the position, from 1, of the first accepted boat with the greatest high end (0 if none)"
 unfoldable pub figuresOf : List Rating → Report
 figuresOf rs = record {
   accepted = count isAccepted rs;

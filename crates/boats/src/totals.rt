@@ -50,7 +50,7 @@ fn exceeds(sum: Sum, value: Range) -> bool
     (sum.greatest == 0) | (sum.top < value.high)
 }
 
-// The place of the greatest high end, from 1, and that end, with the boat at k.
+// The position of the greatest high end, from 1, with the boat at k.
 fn greatest(leads: bool, k: usize, sum: Sum) -> u64
     requires { ⌜ k < 1000 ⌝ }
     ensures { λ r. ⌜ r ≡ cond leads (k + 1) (sum .greatest) ⌝ }
@@ -58,6 +58,7 @@ fn greatest(leads: bool, k: usize, sum: Sum) -> u64
     if leads { k as u64 + 1 } else { sum.greatest }
 }
 
+// That end.
 fn top(leads: bool, sum: Sum, value: Range) -> i64
     ensures { λ r. ⌜ r ≡ cond leads (value .high) (sum .top) ⌝ }
 {
