@@ -1,13 +1,15 @@
 #!/usr/bin/env python3
 """Compares the programs `rate`, `tidy` and `fleet` with the papers' rules over unlimited whole numbers and exact fractions (tests/reference).
 
-tests/compare.py --binary PATH [--tidy PATH [--tidy-into PATH]] [--fleet PATH] [--seed N] [--count N] [--dead-lines N] [--fleets N] [--jobs N]
+tests/compare.py --binary PATH [--tidy PATH [--tidy-into PATH]] [--fleet PATH [--rate-many PATH]] [--seed N] [--count N] [--dead-lines N]
+        [--fleets N] [--jobs N]
     `rate`: the figures of the papers, the examples, inputs that two refusals fit, and random ones: every printed byte; the bends beside those
     with each square rounded (02, request 2), which must be no narrower; for a share of the accepted random ones also the exact premium and its
     derivatives, as fractions, at a point inside the ranges
     `tidy`: the sheets of all these, and sheets with dead lines put in (dead_lines.py): every printed byte, and `rate` of the tidied sheet
     `tidy_into`: a share of them, with buffers that are too short, just long enough and longer: the outcome and every byte of the buffer
     `fleet`: lists of boats (fleets.py), the figures of the request and the example: every printed byte
+    `rate_many`: the same lists, by the other form in which boats are handed over
 tests/compare.py --self-test VECTORS [--program NAME]
     the reference alone against a file of vectors, one JSON object a line with "input" (hex) and "expected"; the program is the one that is named, or
     else the vector's "kind", or `rate` where that is no program's name
@@ -285,6 +287,7 @@ def main():
     parser.add_argument("--tidy", help="the program `tidy`")
     parser.add_argument("--tidy-into", help="the program `tidy_into`, beside it")
     parser.add_argument("--fleet", help="the program `fleet`")
+    parser.add_argument("--rate-many", help="the program `rate_many`, beside it")
     parser.add_argument("--seed", type=int, default=1)
     parser.add_argument("--count", type=int, default=6000, help="random inputs, beside the figures")
     parser.add_argument("--dead-lines", type=int, default=1500, help="random inputs with dead lines, where `tidy` is compared")
@@ -297,7 +300,7 @@ def main():
         sys.exit(not self_test(arguments.self_test, arguments.program))
     if not arguments.binary:
         parser.error("--binary or --self-test")
-    for path in (arguments.binary, arguments.tidy, arguments.tidy_into, arguments.fleet):
+    for path in (arguments.binary, arguments.tidy, arguments.tidy_into, arguments.fleet, arguments.rate_many):
         if path and not Path(path).is_file():
             parser.error(f"no program {path}")
     if arguments.jobs < 1:
@@ -317,7 +320,8 @@ def compared(arguments, share):
     if tidying:
         for name, text, expected in tidy_inputs(arguments.seed, arguments.dead_lines, share):
             tidying.compare(name, text, rating.compare(name, text), expected)
-    paging = FleetComparison(Path(arguments.fleet).resolve()) if arguments.fleet else None
+    numbers = Path(arguments.rate_many).resolve() if arguments.rate_many else None
+    paging = FleetComparison(Path(arguments.fleet).resolve(), numbers) if arguments.fleet else None
     if paging:
         for name, text, expected in fleet_inputs(arguments.seed, arguments.fleets, share):
             paging.compare(name, text, expected)

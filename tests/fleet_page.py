@@ -1,5 +1,6 @@
-"""Compares the program `fleet` with 02, request 3 (tests/reference/fleet.py): every printed byte. What an input is counted as comes from its bytes,
-not from the name it was made under.
+"""Compares the program `fleet` with 02, request 3 (tests/reference/fleet.py): every printed byte. It hands its boats over as structs; the job
+`numbers` of `rate_many` hands them over as a flat list, and has to print the same. What an input is counted as comes from its bytes, not from the
+name it was made under.
 """
 import re
 from functools import lru_cache
@@ -67,9 +68,10 @@ class FleetComparison(Tally):
     rules = LOADING_RULES + LIST_RULES + EDGE_RULES + REPORT_RULES
     errors = FLEET_ERRORS
 
-    def __init__(self, fleet):
+    def __init__(self, fleet, rate_many=None):
         super().__init__()
         self.fleet = fleet
+        self.rate_many = rate_many
 
     def least(self, rule):
         """The random lists meet what a report can have often; all else has inputs of its own, which are made a few times."""
@@ -82,6 +84,8 @@ class FleetComparison(Tally):
             complaint = f"--- figure\n{expected.decode()}--- reference\n{ours.decode()}"
         else:
             complaint = difference(self.fleet, text, ours)
+        if self.rate_many:
+            complaint += difference(self.rate_many, text, ours, "1", "numbers")
         faults = faults_of(text)
         if isinstance(answer, Report):
             complaint += f"--- reported, and yet 14 is due: {faults}\n" if faults else ""
