@@ -8,7 +8,7 @@ ghost use Rattle.range.specs.Limit.{isValid};
 ghost use Rattle.range.specs.Arithmetic.{inverseOf};
 ghost use Rattle.rules.specs.Formula.{sticky};
 ghost use Rattle.rules.specs.Run.{eachValid};
-ghost use Rattle.rules.specs.Table.{factorRow, addRow, addcRow, mulcRow, mulRow, powRow, invRow};
+ghost use Rattle.rules.specs.Table.{factorRow, addRow, addcRow, mulcRow, productSpectrum, starSpectrum, mulRow, powRow, invRow};
 ghost use Rattle.bounds.specs.Terms.{Told, Fine};
 ghost use Rattle.bounds.specs.Table.{valueAt, gradientAt, lineAt, Blank, Refers, lineWith, SettledLine, Worked};
 use super::slopes;
@@ -122,14 +122,14 @@ pub(crate) fn mulc(t: &mut [i32; 1280], s: &mut [u8; 128], i: usize, c: i64, k: 
     settle(t, s, k, v, e, p, b, g)
 }
 
-// The E of 01's row `mul`.
-fn product_spectrum(t: &[i32; 1280], s: &[u8; 128], i: usize, j: usize) -> Range
+// 01's E of a product: Cross, plus the join of the two lines' own bends.
+fn joined_spectrum(t: &[i32; 1280], s: &[u8; 128], i: usize, j: usize) -> Range
     requires { ⌜ i < 64 ⌝ }
     requires { ⌜ j < 64 ⌝ }
     requires { ⌜ Fine (lineAt (now t) (now s) i) ⌝ }
     requires { ⌜ Fine (lineAt (now t) (now s) j) ⌝ }
     ensures { λ r. ⌜ r ≡ sticky
-        (mulRow (lineAt (now (t .entry)) (now (s .entry)) i) (lineAt (now (t .entry)) (now (s .entry)) j) .spectrum) ⌝ }
+        (productSpectrum (lineAt (now (t .entry)) (now (s .entry)) i) (lineAt (now (t .entry)) (now (s .entry)) j)) ⌝ }
 {
     let p = table::support(s, i) | table::support(s, j);
     let b = table::nonlinear(s, i);
@@ -141,6 +141,42 @@ fn product_spectrum(t: &[i32; 1280], s: &[u8; 128], i: usize, j: usize) -> Range
         spectrum::of_cross(t, p, i, j),
         spectrum::extended(own, b | c, p),
     )
+}
+
+// The E of a product of two lines of one factor each, different ones: 02, request 4.
+fn star_spectrum(t: &[i32; 1280], s: &[u8; 128], i: usize, j: usize) -> Range
+    requires { ⌜ i < 64 ⌝ }
+    requires { ⌜ j < 64 ⌝ }
+    requires { ⌜ Fine (lineAt (now t) (now s) i) ⌝ }
+    requires { ⌜ Fine (lineAt (now t) (now s) j) ⌝ }
+    ensures { λ r. ⌜ r ≡ sticky
+        (starSpectrum (lineAt (now (t .entry)) (now (s .entry)) i) (lineAt (now (t .entry)) (now (s .entry)) j)) ⌝ }
+{
+    let a = valid::product(table::value(t, j), table::spectrum(t, i));
+    let b = valid::product(table::value(t, i), table::spectrum(t, j));
+    let g = spectrum::only_of(t, table::support(s, i), i);
+    let h = spectrum::only_of(t, table::support(s, j), j);
+    a.star(b, valid::product(g, h))
+}
+
+// The E of the row `mul`.
+fn product_spectrum(t: &[i32; 1280], s: &[u8; 128], i: usize, j: usize) -> Range
+    requires { ⌜ i < 64 ⌝ }
+    requires { ⌜ j < 64 ⌝ }
+    requires { ⌜ Fine (lineAt (now t) (now s) i) ⌝ }
+    requires { ⌜ Fine (lineAt (now t) (now s) j) ⌝ }
+    ensures { λ r. ⌜ r ≡ sticky
+        (mulRow (lineAt (now (t .entry)) (now (s .entry)) i) (lineAt (now (t .entry)) (now (s .entry)) j) .spectrum) ⌝ }
+{
+    let p = table::support(s, i);
+    let q = table::support(s, j);
+    let b = table::nonlinear(s, i);
+    let c = table::nonlinear(s, j);
+    if spectrum::are_singles(p, q, b, c) {
+        star_spectrum(t, s, i, j)
+    } else {
+        joined_spectrum(t, s, i, j)
+    }
 }
 
 // 01's row `mul`.

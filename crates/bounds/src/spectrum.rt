@@ -3,6 +3,7 @@ ghost use mathlib.Core.Path.{_≡_};
 ghost use Prim.Native.Nat.{_+_, _*_, _<_};
 ghost use Rattle.range.specs.Sums.{at};
 ghost use Rattle.rules.specs.Sets.{apart, isSingle, only};
+ghost use Rattle.rules.specs.Table.{areSingles};
 ghost use Rattle.bounds.specs.Terms.{Told, extendedOf, sumSpectrumOf, squareSpectrumOf, crossSpectrumOf};
 ghost use Rattle.bounds.specs.Table.{gradientAt};
 use super::table;
@@ -22,8 +23,15 @@ fn is_single(s: u8) -> bool
     u8::count_ones(s) == 1
 }
 
+// Whether p and q are sets of one factor each, different ones, and b and c are not both empty.
+pub(crate) fn are_singles(p: u8, q: u8, b: u8, c: u8) -> bool
+    ensures { λ r. ⌜ r ≡ areSingles p q b c ⌝ }
+{
+    is_single(p) & (is_single(q) & (are_apart(p, q) & (b | c != 0)))
+}
+
 // The slope of the line i for the only factor in the set, if there is one.
-fn only_of(t: &[i32; 1280], set: u8, i: usize) -> Range
+pub(crate) fn only_of(t: &[i32; 1280], set: u8, i: usize) -> Range
     requires { ⌜ i < 64 ⌝ }
     ensures { λ r. ⌜ r ≡ at (gradientAt (now (t .entry)) i) (only set) ⌝ }
 {

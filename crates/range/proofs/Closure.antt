@@ -19,6 +19,7 @@ use Rattle.range.proofs.Valid.{if-settled, kept-settled, sticky₁-sett
 use Rattle.range.proofs.Powers.{chain-low, chain-high, down-up, ups-last}
 use Rattle.range.proofs.PowerForms.{aboveZero, belowZero, farthest, endsEven, powEven, endsOdd, oddWithin}
 use Rattle.range.proofs.PowerForms.{powOdd, powOfValid, pow-form, above-mono, below-anti, nearest-farthest}
+use Rattle.range.proofs.StarLaws.{star-settled}
 
 -- ---- powers
 -- of magnitudes m ≤ n of which n's powers count
@@ -85,4 +86,5 @@ closure = record {
   products = λ s g h. if-settled (validOver s g && validOver s h) (λ t. kept-settled _);
   squares = λ s g. if-settled (validOver s g) (λ t. kept-settled _);
   root = λ s g h. if-settled (validOver s g && validOver s h) (λ t. kept-settled _);
+  star = star-settled;
 }

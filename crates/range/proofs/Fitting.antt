@@ -151,6 +151,10 @@ pub fits-narrow : (z : ℤ) → InLimit z → SFits w32 z
 fits-narrow (pos n) h = record { sfits = omega arith }
 fits-narrow (negsuc n) h = record { sfits = omega arith }
 
+-- ---- a number that was computed: its bits are read back
+pub read : (x : ℤ) {y : ℤ} → SFits w64 x → x ≡ y → toZ w64 (ofZ w64 x) ≡ y
+read x f p = toZ-ofZ w64 x f ∙ p
+
 -- ---- a range made of two numbers that were computed: their bits are read back
 pub ends : (l h : ℤ) {x y : ℤ} → SFits w64 l → SFits w64 h → l ≡ x → h ≡ y → fromTo (toZ w64 (ofZ w64 l)) (toZ w64 (ofZ w64 h)) ≡ fromTo x y
 ends l h f g p q = rw (toZ-ofZ w64 l f, toZ-ofZ w64 h g, p, q)

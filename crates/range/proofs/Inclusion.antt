@@ -7,6 +7,7 @@ use Rattle.range.proofs.Bounded.{times-bounded, product-bounded, hull-l
 use Rattle.range.proofs.InclusionInverse.{inverse-∈, divisor-nonzero}
 use Rattle.range.proofs.InclusionPower.{power-∈}
 use Rattle.range.proofs.InclusionSums.{products-∈, squares-∈, root-ends, root-∈}
+use Rattle.range.proofs.StarInclusion.{star-∈}
 
 pub inclusion : Inclusion
 inclusion =
@@ -26,4 +27,5 @@ inclusion =
       squares = squares-∈;
       root-ends = root-ends;
       root = root-∈;
+      star = λ p q r t u v. let w = star-∈ p q r t u v in (w .low, w .high);
     }

@@ -23,13 +23,15 @@ use Rattle.range.proofs.Valid.{and-left, and-right, and-both, ends-of, 
 use Rattle.range.proofs.Extremes.{end-products, least-product, greatest-product, lesser-any}
 use Rattle.range.proofs.Extremes.{greater-any, lesser-left, lesser-right, greater-left, greater-right}
 use Rattle.range.proofs.Powers.{ten-thousand, Grows, chain-high, down-down, down-up, up-up}
-use Rattle.range.proofs.PowerForms.{aboveZero, belowZero, nearest, farthest, powEven, oddWithin, powOdd}
-use Rattle.range.proofs.PowerForms.{powOfValid, pow-form, ups-mono, above-mono, below-anti, nearest-farthest}
+use Rattle.range.proofs.PowerForms.{aboveZero, belowZero, farthest, powEven, oddWithin, powOdd}
+use Rattle.range.proofs.PowerForms.{powOfValid, pow-form, ups-mono, above-mono, below-anti}
 use Rattle.exact.proofs.Div.{OneSign, floorQuot-anti, ceilQuot-anti, floorQuot≤ceilQuot}
 use Rattle.range.proofs.Inverting.{one-sign}
 use Rattle.range.proofs.SumOver.{sumOver-mono, members-valid, valid-over, squareSum-nonneg}
 use Rattle.range.proofs.Roots.{aroundOf}
 use Rattle.range.proofs.Within.{Within, within-of, within-⊑, ⊑-refl, if-isotone}
+use Rattle.range.proofs.Narrowing.{times-within, nearest-anti, farthest-mono, ordered, farthest-nonneg}
+use Rattle.range.proofs.StarLaws.{star-isotone}
 use Rattle.range.proofs.Within.{unless-isotone, kept-isotone, sticky₁-isotone, sticky₂-isotone}
 
 -- ---- sum, negation, multiple, hull
@@ -51,12 +53,6 @@ module _ {a b c d : Range} (m : Within a c) (n : Within b d) where
 module _ {a c : Range} (w : Within a c) where
   neg-within : Within (endsNeg a) (endsNeg c)
   neg-within = record { low = neg-anti (w .high); order = neg-anti (w .order); high = neg-anti (w .low) }
-
-  times-within : (k : ℕ) → Within (endsTimes k a) (endsTimes k c)
-  times-within k = record { low = scaled (w .low); order = scaled (w .order); high = scaled (w .high) }
-    where
-      scaled : {x y : ℤ} → x ≤ℤ y → (pos k *ℤ x) ≤ℤ (pos k *ℤ y)
-      scaled h = Ord.mul-le-left ℤ-ordered (pos-≤ zero-le) h
 
 -- ---- product
 module _ {a b c d : Range} (m : Within a c) (n : Within b d) where
@@ -127,30 +123,15 @@ grow : {f g : ℤ → ℤ} → Grows f g → {k : ℕ} {m : ℤ} → pos k ≤�
 grow s h e = chain-high s (pos-≤ zero-le) h e
 
 module _ {a c : Range} (w : Within a c) where
-  nearest-anti : nearest c ≤ℤ nearest a
-  nearest-anti = omega (ints, above-mono (w .low), below-anti (w .high))
-
-  farthest-mono : farthest a ≤ℤ farthest c
-  farthest-mono =
-      greater-any (negℤ (a .low)) (a .high) (λ z. z ≤ℤ farthest c)
-      (≤ℤ-trans (neg-anti (w .low)) (greater-left (negℤ (c .low)) (c .high)))
-      (≤ℤ-trans (w .high) (greater-right (negℤ (c .low)) (c .high)))
-
-  ordered : nearest a ≤ℤ farthest a
-  ordered = nearest-farthest (a .low) (a .high) (w .order)
-
-  farthest-nonneg : pos 0 ≤ℤ farthest a
-  farthest-nonneg = ≤ℤ-trans (pos-≤ zero-le) ordered
-
   module _ (e : ℕ) where
     even-isotone : powEven a e ⊑ powEven c e
     even-isotone =
         if-isotone (upsWithin (farthest a) e) (upsWithin (farthest c) e)
-        (ups-mono farthest-nonneg farthest-mono e)
+        (ups-mono (farthest-nonneg w) (farthest-mono w) e)
         (λ t. within-⊑ (record {
-          low = grow down-down nearest-anti e;
-          order = grow down-up ordered e;
-          high = chain-high up-up farthest-nonneg farthest-mono e;
+          low = grow down-down (nearest-anti w) e;
+          order = grow down-up (ordered w) e;
+          high = chain-high up-up (farthest-nonneg w) (farthest-mono w) e;
         }))
 
     odd-isotone : powOdd a e ⊑ powOdd c e
@@ -275,4 +256,5 @@ isotonicity = record {
   products = two-isotone products-within;
   squares = one-isotone squares-within;
   root = two-isotone root-within;
+  star = star-isotone;
 }

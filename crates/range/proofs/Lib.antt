@@ -19,11 +19,17 @@ pub mod Scanning
 pub mod Squaring
 pub mod Crossing
 -- specs/Laws
+pub mod Within
+pub mod Narrowing
+pub mod StarRoot
+pub mod StarLaws
+pub mod StarFits
 pub mod Closure
 pub mod Symmetry
-pub mod Within
 pub mod Isotonicity
 pub mod Laws
+-- 02's rule for a product of two lines beside 01's
+pub mod Sharper
 -- specs/Rounding
 pub mod Rounding
 -- the ends without a limit, which refusal 12 is held against
@@ -36,4 +42,6 @@ pub mod Bounded
 pub mod InclusionInverse
 pub mod InclusionPower
 pub mod InclusionSums
+pub mod StarForm
+pub mod StarInclusion
 pub mod Inclusion

@@ -15,9 +15,13 @@ use Rattle.range.specs.declared.Range.{Range}
 use Rattle.range.specs.Limit.{fromTo, zeroRange, over, least, most, isValid, kept}
 use Rattle.exact.proofs.Sqrt.{ceilSqrt, ceil-root, ceil-root-unique, root-lt}
 
--- two numbers up to 2,000,000,000 have a product that fits
-pub product-fits : (a b : ℕ) → a ≤ 2000000000 → b ≤ 2000000000 → Fits w64 (a * b)
+-- two numbers up to 3,000,000,000 have a product that fits
+pub product-fits : (a b : ℕ) → a ≤ 3000000000 → b ≤ 3000000000 → Fits w64 (a * b)
 product-fits a b h k = omega (arith, mul-le-mul h k)
+
+pub root-none : (x : ℕ) → x ≡ 0 → 0 ≡ ceilSqrt x
+unfolding ceilSqrt
+root-none x e = rw e refl
 
 pub not-zero : (x r : ℕ) → 1 ≤ x → x ≤ r * r → 1 ≤ r
 not-zero x zero h k = omega arith
@@ -54,10 +58,14 @@ pub around-none : (n : ℕ) → n ≡ 0 → kept (aroundOf (ceilSqrt n)) ≡ zer
 unfolding kept isValid ceilSqrt
 around-none n e = rw e refl
 
+-- a root, as a signed number
+pub root-read : (b : ℕ) → b ≤ 3000000000 → toZ w64 b ≡ pos b
+root-read b h = toZ-pos w64 b (omega arith)
+
 -- made of a number of 64 bits that is at most 2,000,000,000
 module _ (b : ℕ) (h : b ≤ 2000000000) where
   read : toZ w64 b ≡ pos b
-  read = toZ-pos w64 b (omega arith)
+  read = root-read b (omega arith)
 
   pub minus-fits : SFits w64 (pos 0 -ℤ toZ w64 b)
   minus-fits = rw (read, +ℤ-idl (negℤ (pos b))) (neg-fits (pos b) h)
@@ -67,14 +75,12 @@ module _ (b : ℕ) (h : b ≤ 2000000000) where
       rw (toZ-ofZ w64 (pos 0 -ℤ toZ w64 b) minus-fits, read, +ℤ-idl (negℤ (pos b))) (sym (around-kept b h))
       ∙ ap (λ (k : ℕ). kept (aroundOf k)) e
 
-pub product-above : (x y : ℕ) → (x ≡ 0 → ⊥) → (y ≡ 0 → ⊥) → 1 ≤ x * y
-product-above zero y p q = absurd (p refl)
-product-above (suc x) zero p q = absurd (q refl)
-product-above (suc x) (suc y) p q = omega arith
-
 -- ---- whether the product of x and y is within the square of the limit, by a division
 pub product-within : (x y : ℕ) → x ≤ 4000000000000000000 / y → x * y ≤ 4000000000000000000
 product-within x y h = le-trans (mul-le-mul h (le-refl y)) (div-mul-le-self 4000000000000000000 y)
+
+pub root-within : (n : ℕ) {b : ℕ} → b ≡ ceilSqrt n → n ≤ 4000000000000000000 → b ≤ 2000000000
+root-within n e h = rw e (ceil-root n .least 2000000000 h)
 
 pub root-over : (x y : ℕ) → 1 ≤ y → 4000000000000000000 / y < x → 2000000000 < ceilSqrt (x * y)
 root-over x y p h = root-lt (lt-of-lt-of-le (div-lt-iff-lt-mul p .0 h) (ceil-root (x * y) .high))

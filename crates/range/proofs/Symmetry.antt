@@ -19,6 +19,7 @@ use Rattle.range.specs.Laws.{Symmetry}
 use Rattle.range.proofs.Extremes.{lesser-any, greater-any, lesser-left, lesser-right, greater-left}
 use Rattle.range.proofs.Extremes.{greater-right, end-products, least-product, greatest-product}
 use Rattle.range.proofs.SumOver.{sumOver-ext}
+use Rattle.range.proofs.StarLaws.{star-symmetric}
 
 -- ---- the lesser and the greater, of two and of the four products
 lesser-comm : (x y : ℤ) → lesserOf x y ≡ lesserOf y x
@@ -96,4 +97,5 @@ symmetry = record {
   hull = sticky₂-comm endsHull hull-ends;
   products = λ s g h. ap₂ (λ c r. cond c (kept r) over) (and-comm (validOver s g) (validOver s h)) (products-ends s g h);
   root = λ s g h. ap₂ (λ c r. cond c (kept (fromTo (negℤ r) r)) over) (and-comm (validOver s g) (validOver s h)) (root-sum s g h);
+  star = star-symmetric;
 }

@@ -13,6 +13,7 @@ use Rattle.range.specs.Limit.{fromTo, least, most, over, isValid, bothVa
 use Rattle.range.specs.Arithmetic.{greaterOf, endsSum, endsNeg, endsTimes, endsProduct, endsInverse, endsHull, holdsZero, sumOf, negOf, timesOf, productOf, inverseOf, hullOf}
 use Rattle.range.specs.Power.{D, U, upsWithin, isEven, endsAbove, endsBelow, endsAcrossEven, endsAcrossOdd, powAbove, powBelow, powAcrossEven, powAcrossOdd, powAcross, powBySign, powOf, endsPow}
 use Rattle.range.specs.Sums.{validOver, endsProducts, productsOf, endsSquares, squaresOf, endsRoot, rootOf}
+use Rattle.range.specs.Star.{endsStar, isHalf, starOf}
 use Rattle.range.specs.Steps.{upTo}
 use Rattle.range.proofs.Valid.{T-true, true-T, false-T, not-true, and-left, and-right, and-both, ends-of, valid-of, over-invalid, if-passed}
 use Rattle.range.proofs.Powers.{D-zero, ups-last}
@@ -20,6 +21,7 @@ use Rattle.range.proofs.PowerForms.{powOfValid}
 use Rattle.range.proofs.Climbing.{power-ends, neg-above, low-magnitude, high-magnitude, across-magnitude}
 use Rattle.range.proofs.Fitting.{neg-valid}
 use Rattle.range.proofs.Ordered.{Ordered, sum-ordered, neg-ordered, times-ordered, product-ordered, hull-ordered, inverse-ordered, products-ordered, squares-ordered, root-ordered}
+use Rattle.range.proofs.StarLaws.{star-valid}
 
 -- no end passes the limit
 abbrev pub fits : Range → Bool
@@ -226,3 +228,39 @@ power-limited {u = u} {p = p} e l = rw (l .is) (go p (l .valid) e)
     go true v zero = let d : isValid u ≡ true = T-true (v tt) in rw (d, ups-none u) (given-limited tt)
     go true v (suc e) = let d : isValid u ≡ true = T-true (v tt) in rw d (rows u d e .limited)
     go false v e = rw over-not over-limited
+
+-- ---- request 4's rule: twice each operand is tested
+half-limited : {a u : Range} {p : Bool} → Limited a u p → isHalf a ≡ (p && fits (endsTimes 2 u))
+unfolding isHalf isValid
+half-limited {a} {u} {p} l = rw (l .is) (go p (l .valid))
+  where
+    go : (p : Bool) → (T p → T (isValid u)) → isHalf (cond p u over) ≡ (p && fits (endsTimes 2 u))
+    go true v =
+        let d = endsTimes 2 u in
+        let e : leZ (d .low) (d .high) ≡ true = T-true (times-ordered 2 u (ends-of u (v tt) .order) .le) in
+        rw e
+    go false v = refl
+
+-- what an operand is where its test passes
+limited-is : {a u : Range} {p : Bool} (q : Bool) → Limited a u p → T (p && q) → a ≡ u
+limited-is {u = u} {p = p} q l t = l .is ∙ if-passed p u over (and-left p q t)
+
+pub star-limited : {a b c u v w : Range} {p q r : Bool} → Limited a u p → Limited b v q → Limited c w r
+    → Limited (starOf a b c) (endsStar u v w)
+    ((p && fits (endsTimes 2 u)) && ((q && fits (endsTimes 2 v)) && ((r && fits (endsTimes 2 w)) && fits (endsStar u v w))))
+unfolding starOf
+star-limited {a} {b} {c} {u} {v} {w} l m n =
+    let d = half-limited l in
+    let e = half-limited m in
+    let f = half-limited n in
+    rw (d, e, f) (go _ _ _ d e f (limited-is _ l) (limited-is _ m) (limited-is _ n))
+  where
+    go : (P Q R : Bool) → isHalf a ≡ P → isHalf b ≡ Q → isHalf c ≡ R → (T P → a ≡ u) → (T Q → b ≡ v) → (T R → c ≡ w)
+        → Limited (cond (P && (Q && R)) (endsStar a b c) over) (endsStar u v w) (P && (Q && (R && fits (endsStar u v w))))
+    go true true true d e f x y z =
+        let ends = endsStar u v w in
+        let t : T (isValid ends) = rw (x tt, y tt, z tt) at (star-valid (record { first = true-T d; second = true-T e; third = true-T f })) in
+        rw (x tt, y tt, z tt) (record { is = sym (if-passed (fits ends) ends over (valid-fits ends t)); valid = λ u. t })
+    go true true false d e f x y z = over-limited
+    go true false R d e f x y z = over-limited
+    go false Q R d e f x y z = over-limited

@@ -12,6 +12,7 @@ use Rattle.range.specs.Limit.{zeroRange, oneRange, isValid}
 use Rattle.range.specs.Arithmetic.{sumOf, negOf, timesOf, productOf, inverseOf, hullOf}
 use Rattle.range.specs.Power.{powOf}
 use Rattle.range.specs.Sums.{has, sumOver, at, productsOf, squaresOf, rootOf}
+use Rattle.range.specs.Star.{starOf}
 
 -- x lies between the ends of r if r is valid (01, "The exact side": "An end of u units is compared as u/10,000"). Of `over` it says
 -- nothing, so that what follows needs no condition on a result.
@@ -50,3 +51,7 @@ pub record Inclusion : Type 0 where
       → (rootOf s g h .low ≡ negℤ (rootOf s g h .high)) × (0ℚ ≤ℚ units (rootOf s g h .high))
   pub root : {s : ℕ} {g h : List Range} {x y : ℕ → ℚ} → Members s x g → Members s y h → T (isValid (rootOf s g h))
       → sumOverℚ s (λ a. x a *ℚ x a) *ℚ sumOverℚ s (λ a. y a *ℚ y a) ≤ℚ units (rootOf s g h .high) *ℚ units (rootOf s g h .high)
+  -- Lemma A.1 of 000: the eigenvalues of the matrix with x, y on the diagonal and z beside it
+  pub star : {a b c : Range} {x y z : ℚ} → x ∈ a → y ∈ b → z ∈ c → T (isValid (starOf a b c)) → (u v : ℚ)
+      → let form = x *ℚ (u *ℚ u) +ℚ y *ℚ (v *ℚ v) +ℚ num 2 *ℚ (z *ℚ (u *ℚ v)) in
+      (units (starOf a b c .low) *ℚ (u *ℚ u +ℚ v *ℚ v) ≤ℚ form) × (form ≤ℚ units (starOf a b c .high) *ℚ (u *ℚ u +ℚ v *ℚ v))

@@ -11,6 +11,7 @@ use Rattle.range.specs.Limit.{over, isValid}
 use Rattle.range.specs.Arithmetic.{sumOf, negOf, timesOf, productOf, inverseOf, hullOf}
 use Rattle.range.specs.Power.{powOf}
 use Rattle.range.specs.Sums.{has, at, productsOf, squaresOf, rootOf}
+use Rattle.range.specs.Star.{starOf}
 
 -- A valid range, or the one invalid range that operations give.
 abbrev pub Settled : Range → Type 0
@@ -42,6 +43,7 @@ pub record Closure : Type 0 where
   pub products : (s : ℕ) (g h : List Range) → Settled (productsOf s g h)
   pub squares : (s : ℕ) (g : List Range) → Settled (squaresOf s g)
   pub root : (s : ℕ) (g h : List Range) → Settled (rootOf s g h)
+  pub star : (a b c : Range) → Settled (starOf a b c)
 
 -- The order of the operands does not matter.
 pub record Symmetry : Type 0 where
@@ -50,6 +52,7 @@ pub record Symmetry : Type 0 where
   pub hull : (a b : Range) → hullOf a b ≡ hullOf b a
   pub products : (s : ℕ) (g h : List Range) → productsOf s g h ≡ productsOf s h g
   pub root : (s : ℕ) (g h : List Range) → rootOf s g h ≡ rootOf s h g
+  pub star : (a b c : Range) → starOf a b c ≡ starOf b a c
 
 -- Inclusion isotonicity: valid narrower operands give a valid narrower result.
 pub record Isotonicity : Type 0 where
@@ -63,6 +66,7 @@ pub record Isotonicity : Type 0 where
   pub products : {s : ℕ} {f g h k : List Range} → Narrower s f h → Narrower s g k → productsOf s f g ⊑ productsOf s h k
   pub squares : {s : ℕ} {f g : List Range} → Narrower s f g → squaresOf s f ⊑ squaresOf s g
   pub root : {s : ℕ} {f g h k : List Range} → Narrower s f h → Narrower s g k → rootOf s f g ⊑ rootOf s h k
+  pub star : {a b c d e f : Range} → a ⊑ d → b ⊑ e → c ⊑ f → starOf a b c ⊑ starOf d e f
 
 pub record Laws : Type 0 where
   pub closure : Closure

@@ -13,7 +13,8 @@ ghost use Rattle.range.specs.Arithmetic.{spreadOf, scaledOf, endsProduct
 ghost use Rattle.range.specs.Steps.{Small, endsBy, sortedOf, endsOver, invAbove, invBelow, upTo, isZero};
 
 mod power; // power.rt: the power of a range
-mod root; // root.rt: the square root of a product, rounded up
+mod root; // root.rt: square roots, rounded up
+mod star; // star.rt: the bend of a product of two lines of one factor each
 mod sums; // sums.rt: sums over the factors of a set
 
 // "The limit is 2,000,000,000 units, either sign."

@@ -9,7 +9,7 @@ use lib.IntN.{ℤ, pos, negℤ}
 use lib.Signed.{leZ}
 use Rattle.range.specs.declared.Range.{Range}
 use Rattle.range.specs.Limit.{fromTo, most, isValid}
-use Rattle.range.specs.Arithmetic.{greaterOf, holdsZero}
+use Rattle.range.specs.Arithmetic.{greaterOf, endsTimes, holdsZero}
 use Rattle.range.specs.Power.{U, isEven, upsWithin, ups, upsOf}
 use Rattle.range.specs.Sums.{validOver}
 use Rattle.range.proofs.Valid.{false-T, ends-of}
@@ -17,9 +17,10 @@ use Rattle.range.proofs.Ordered.{Ordered, sum-ordered, neg-ordered, times-order
 use Rattle.range.proofs.Ordered.{power-ordered, products-ordered, squares-ordered, root-ordered, AllOrdered, none-ordered, append-ordered}
 use Rattle.range.proofs.Ordered.{one-ordered, upsOf-ordered}
 use Rattle.range.proofs.Unlimited.{Limited, limited-valid, upsTest, given-limited, sum-limited, neg-limited, times-limited, product-limited}
-use Rattle.range.proofs.Unlimited.{inverse-limited, hull-limited, power-limited, products-limited, squares-limited, root-limited}
+use Rattle.range.proofs.Unlimited.{inverse-limited, hull-limited, power-limited, products-limited, squares-limited, root-limited, star-limited}
+use Rattle.range.proofs.StarLaws.{star-ordered}
 use Rattle.rules.specs.Formula.{Formula, given, _⊕_, _⊗_, negated, times, power, inverse, hull, sumOfProducts, sumOfSquares}
-use Rattle.rules.specs.Formula.{rootOfSquares, choose, sticky, unlimited, produced}
+use Rattle.rules.specs.Formula.{rootOfSquares, star, choose, doubled, sticky, unlimited, produced}
 use Rattle.rules.specs.Overflow.{withinLimit, allWithin}
 
 -- ---- tests of produced ranges
@@ -70,6 +71,7 @@ Proper (hull x y) = Proper x × Proper y
 Proper (sumOfProducts s g h) = T (validOver s g) × T (validOver s h)
 Proper (sumOfSquares s g) = T (validOver s g)
 Proper (rootOfSquares s g h) = T (validOver s g) × T (validOver s h)
+Proper (star x y z) = Proper x × Proper y × Proper z
 Proper (choose c x y) = Proper x × Proper y
 
 pub limited : (f : Formula) → Proper f → Limited (sticky f) (unlimited f) (allWithin (produced f))
@@ -85,6 +87,18 @@ limited (hull x y) (p, q) = rw (steps₂ (produced x) (produced y)) (hull-limite
 limited (sumOfProducts s g h) (p, q) = rw and-true (products-limited s g h p q)
 limited (sumOfSquares s g) p = rw and-true (squares-limited s g p)
 limited (rootOfSquares s g h) (p, q) = rw and-true (root-limited s g h p q)
+limited (star x y z) (p, q, r) =
+    let X = doubled (produced x) (unlimited x) in
+    let Y = doubled (produced y) (unlimited y) in
+    let Z = doubled (produced z) (unlimited z) in
+    rw (
+      all-append X (Y ++ (Z ++ (unlimited (star x y z) ∷ []))),
+      steps₂ Y Z,
+      steps₁ (produced x) (endsTimes 2 (unlimited x)),
+      steps₁ (produced y) (endsTimes 2 (unlimited y)),
+      steps₁ (produced z) (endsTimes 2 (unlimited z)),
+    )
+    (star-limited (limited x p) (limited y q) (limited z r))
 limited (choose true x y) (p, q) = limited x p
 limited (choose false x y) (p, q) = limited y q
 
@@ -106,6 +120,9 @@ step₁ {v = v} {rs = rs} i o = record { value = o; steps = append-ordered rs (i
 step₂ : {u v w : Range} {rs ss : List Range} → InOrder u rs → InOrder v ss → Ordered w → InOrder w (rs ++ (ss ++ (w ∷ [])))
 step₂ {rs = rs} i j o = record { value = o; steps = append-ordered rs (i .steps) (step₁ j o .steps) }
 
+twice : {u : Range} {rs : List Range} → InOrder u rs → InOrder (endsTimes 2 u) (doubled rs u)
+twice {u} i = step₁ i (times-ordered 2 u (i .value))
+
 pub in-order : (f : Formula) → Proper f → InOrder (unlimited f) (produced f)
 unfolding unlimited produced
 in-order (given r) p = record { value = ends-of r p .order; steps = none-ordered }
@@ -122,5 +139,14 @@ in-order (hull x y) (p, q) = let i = in-order x p in let j = in-order y q in ste
 in-order (sumOfProducts s g h) p = start (products-ordered s g h)
 in-order (sumOfSquares s g) p = start (squares-ordered s g)
 in-order (rootOfSquares s g h) p = start (root-ordered s g h)
+in-order (star x y z) (p, q, r) =
+    let i = in-order x p in
+    let j = in-order y q in
+    let k = in-order z r in
+    let o = star-ordered (unlimited x) (unlimited y) (unlimited z) (i .value) (j .value) in
+    record {
+      value = o;
+      steps = append-ordered (doubled (produced x) (unlimited x)) (twice i .steps) (step₂ (twice j) (twice k) o .steps);
+    }
 in-order (choose true x y) (p, q) = in-order x p
 in-order (choose false x y) (p, q) = in-order y q

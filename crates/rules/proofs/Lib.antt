@@ -14,6 +14,7 @@ pub mod Forms
 pub mod SpectrumSum
 pub mod SpectrumSquare
 pub mod SpectrumCross
+pub mod SpectrumStar
 pub mod SpectrumRows
 pub mod Whole
 pub mod Sound
@@ -29,3 +30,8 @@ pub mod FirstBad
 pub mod Refused
 -- specs/Published: the arithmetic without a limit
 pub mod Published
+-- specs/Sharper: request 4 beside 01's rule
+pub mod Half
+pub mod Exchanged
+pub mod SharperCross
+pub mod Sharper

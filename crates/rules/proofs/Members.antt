@@ -9,7 +9,7 @@ use native.Mathlib.Omega.{arith}
 use lib.Bits.{bitOr, bitAnd, or-step, and-step, or-shr, and-shr}
 use lib.Count.{ones, ones-step, ones-le, trailingZeros}
 use lib.Dec.{T, eqb, lit<}
-use lib.Pow.{pow-pos, pow-lt, pow-mono, high, high-ones}
+use lib.Pow.{pow-pos, pow-lt, pow-mono, high, high-ones, shr-shr}
 use Rattle.range.specs.Sums.{has}
 use Rattle.rules.specs.Sets.{none, single, allOf, _∪_}
 
@@ -133,6 +133,23 @@ out-none a m = subst (λ (d : ℕ). T (eqb (d % 2) 1)) (N.zero-div (2 ^ a)) m
 
 pub none-in : (s : ℕ) → none ⊆ s
 none-in s = record { into = λ a m. absurd (out-none a m) }
+
+-- and a set that nothing is in is empty
+pub no-members : (m : ℕ) → ((a : ℕ) → ¬ T (has m a)) → m ≡ none
+unfolding has
+no-members m f = go m m (N.le-refl m) f
+  where
+    go : (k m : ℕ) → m ≤ k → ((a : ℕ) → ¬ T (has m a)) → m ≡ none
+    go zero m h f = omega arith
+    go (suc k) m h f =
+        let z : m / 2 ≡ 0 = go k (m / 2) (omega arith) (λ a t. f (suc a) (subst (λ (x : ℕ). T (eqb (x % 2) 1)) (shr-shr m 1 a ∙ next a) t)) in
+        ⊎-elim
+        (λ e. omega arith)
+        (λ o. absurd (f 0 (subst (λ (x : ℕ). T (eqb x 1)) (sym (ap (λ (x : ℕ). x % 2) (N.div-one m) ∙ o)) tt)))
+        (odd-or-even m)
+      where
+        next : (a : ℕ) → m / 2 ^ (1 + a) ≡ m / 2 ^ suc a
+        next a = ap (λ (x : ℕ). m / 2 ^ x) (omega arith)
 
 pub in-single : (i : ℕ) → T (has (single i) i)
 unfolding has

@@ -9,19 +9,21 @@ use Rattle.codelist.specs.declared.Op.{Op}
 use Rattle.codelist.specs.declared.Op.the-variants.{Add, Mul, AddC, MulC, Pow, Inv}
 use Rattle.codelist.specs.declared.Codelist.{Codelist}
 use Rattle.codelist.specs.Codelist.{Earlier, WellFormedOp}
+use Rattle.range.specs.declared.Range.{Range}
+use Rattle.range.specs.Sums.{at}
 use Rattle.rules.specs.declared.Line.{Line}
 use Rattle.rules.specs.declared.Limits.{Limits}
 use Rattle.rules.specs.Sets.{single, _∪_}
 use Rattle.rules.specs.Table.{factorRow, addRow, addcRow, mulcRow, mulRow, powRow, invRow, lineOf}
 use Rattle.rules.specs.Run.{line, rowOf}
-use Rattle.rules.specs.Rate.{limitsOf, rated, rateOf}
+use Rattle.rules.specs.Rate.{pairs, limitsOf, rated, rateOf}
 use Rattle.rules.specs.Exact.{Jet}
 use Rattle.rules.specs.Promises.{NestedRating}
 use Rattle.rules.proofs.Members.{_⊆_, ⊆-refl, ⊆-union, none-in}
-use Rattle.rules.proofs.Along.{Along, along-line}
+use Rattle.rules.proofs.Along.{Along, along-line, Kept}
 use Rattle.rules.proofs.Accepted.{accepted, last-line}
 
-abbrev NestedLine : Option Jet → Option Jet → Line → Type 0
+abbrev pub NestedLine : Option Jet → Option Jet → Line → Type 0
 NestedLine o u l = l .nonlinear ⊆ l .support
 
 module _ {os us : List (Option Jet)} {ls : List Line} (r : Along NestedLine os us ls) where
@@ -37,11 +39,18 @@ module _ {os us : List (Option Jet)} {ls : List Line} (r : Along NestedLine os u
   nested-next (Pow i m) f = ⊆-refl (line ls i .support)
   nested-next (Inv i) f = ⊆-refl (line ls i .support)
 
+pub nested-kept : Kept NestedLine
+nested-kept = record { next = λ o f r t. nested-next r o f }
+
+pub factor-nested : (i : ℕ) (r : Range) → lineOf (factorRow i r) .nonlinear ⊆ lineOf (factorRow i r) .support
+unfolding factorRow lineOf
+factor-nested i r = none-in (single i)
+
 pub nested-sets : (c : Codelist) (xs : List ℤ) (l : Limits) → rateOf c xs ≡ rated l → l .nonlinear ⊆ l .support
-unfolding limitsOf factorRow lineOf
+unfolding limitsOf
 nested-sets c xs l e =
     rw (accepted c xs l e .limits)
-    (last-line NestedLine (record { next = λ o f r t. nested-next r o f }) (accepted c xs l e) [] [] (λ a k. none-in (single a)))
+    (last-line NestedLine nested-kept (accepted c xs l e) [] [] (λ a k. factor-nested a (at (pairs xs) a)))
 
 pub nested : NestedRating
 nested c xs l e = record { into = nested-sets c xs l e .into }

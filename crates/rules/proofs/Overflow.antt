@@ -154,7 +154,10 @@ module _ {x y : Line} (v : ValidLine x) (w : ValidLine y) where
   mul-proper = record {
     value = (v .value, w .value);
     slope = λ a. ((v .value, w .slope a), (w .value, v .slope a));
-    spectrum = (cross-proper (x .support ∪ y .support), extended-proper (sum-proper (w .value, v .spectrum) (v .value, w .spectrum)));
+    spectrum = (
+      ((w .value, v .spectrum), (v .value, w .spectrum), (v .slope (only (x .support)), w .slope (only (y .support)))),
+      (cross-proper (x .support ∪ y .support), extended-proper (sum-proper (w .value, v .spectrum) (v .value, w .spectrum))),
+    );
   }
 
 -- a factor's row has no step

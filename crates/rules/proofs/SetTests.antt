@@ -8,11 +8,12 @@ use native.Mathlib.Omega.{arith}
 use lib.Bits.{bitAnd}
 use lib.Count.{ones}
 use lib.Dec.{T, eqb, eqb→eq}
+use borrow.Author.Tests.{eq-eqb}
 use lib.Pow.{pow-add, pow-mono, shl-shr}
 use Rattle.range.specs.Sums.{has}
-use Rattle.range.proofs.Valid.{and-right}
+use Rattle.range.proofs.Valid.{true-T, and-right, and-both, false-T, not-true}
 use Rattle.rules.specs.Sets.{none, single, apart, isSingle, only}
-use Rattle.rules.proofs.Members.{digit, digit-and, one-digit, out-none, in-single, below-single}
+use Rattle.rules.proofs.Members.{digit, digit-lt, digit-and, no-members, one-digit, out-none, in-single, below-single}
 
 in-both : (s t a : ℕ) → T (has s a) → T (has t a) → T (has (bitAnd s t) a)
 unfolding has
@@ -20,6 +21,22 @@ in-both s t a m n = subst (λ (d : ℕ). T (eqb d 1)) (both (eqb→eq (digit s a
   where
     both : digit s a ≡ 1 → digit t a ≡ 1 → 1 ≡ digit (bitAnd s t) a
     both p q = omega (arith, digit-and s t a)
+
+-- sets that are not empty and share no factor are apart
+pub disjoint-apart : (s t : ℕ) → ¬ (s ≡ none) → ¬ (t ≡ none) → ((a : ℕ) → T (has s a) → ¬ T (has t a)) → T (apart s t)
+unfolding apart has
+disjoint-apart s t p q d =
+    and-both (not (eqb s none)) _ (some s p)
+    (and-both (not (eqb t none)) _ (some t q)
+    (true-T (eq-eqb (bitAnd s t) none (no-members (bitAnd s t) (λ a m.
+    let e : digit (bitAnd s t) a ≡ 1 = eqb→eq (digit (bitAnd s t) a) 1 m in
+    d a (digit-one (digit s a) (omega (arith, digit-and s t a, digit-lt s a))) (digit-one (digit t a) (omega (arith, digit-and s t a, digit-lt t a))))))))
+  where
+    some : (m : ℕ) → ¬ (m ≡ none) → T (not (eqb m none))
+    some m f = false-T {b = eqb m none} (not-true (λ t. f (eqb→eq m none t)))
+
+    digit-one : (x : ℕ) → x ≡ 1 → T (eqb x 1)
+    digit-one x e = true-T (eq-eqb x 1 e)
 
 pub apart-disjoint : (s t : ℕ) → T (apart s t) → (a : ℕ) → T (has s a) → ¬ T (has t a)
 unfolding apart

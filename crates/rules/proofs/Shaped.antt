@@ -27,15 +27,15 @@ use Rattle.rules.specs.Exact.{Jet}
 use Rattle.rules.specs.Promises.{ShapedRating}
 use Rattle.rules.proofs.Members.{left-in, out-none, in-single, below-part}
 use Rattle.rules.proofs.Enclosed.{spectrum-valid}
-use Rattle.rules.proofs.Along.{Along, along-line}
+use Rattle.rules.proofs.Along.{Along, along-line, Kept}
 use Rattle.rules.proofs.Accepted.{accepted, last-line}
 use Rattle.rules.proofs.Sparse.{product-zero, support-below, gradient-outside, gradient-beyond}
 use Rattle.rules.proofs.Nested.{nested-sets}
 
-record Flat (l : Line) : Type 0 where
-  factor : ℕ
-  depends : T (has (l .support) factor)
-  flat : l .nonlinear ≡ 0 → l .spectrum ≡ zeroRange
+pub record Flat (l : Line) : Type 0 where
+  pub factor : ℕ
+  pub depends : T (has (l .support) factor)
+  pub flat : l .nonlinear ≡ 0 → l .spectrum ≡ zeroRange
 
 -- ---- sets
 module _ (s t : ℕ) (e : s ∪ t ≡ 0) where
@@ -50,16 +50,16 @@ module _ (s t : ℕ) (e : s ∪ t ≡ 0) where
 bent-flat : (l : Line) (a : ℕ) → T (has (l .support) a) → l .nonlinear ≡ l .support → Flat l
 bent-flat l a t e = record { factor = a; depends = t; flat = λ n. let z : l .support ≡ 0 = sym e ∙ n in absurd (out-none a (rw z at t)) }
 
-factor-flat : (i : ℕ) (r : Range) → Flat (lineOf (factorRow i r))
+pub factor-flat : (i : ℕ) (r : Range) → Flat (lineOf (factorRow i r))
 unfolding factorRow lineOf
 factor-flat i r = record { factor = i; depends = in-single i; flat = λ n. refl }
 
 module _ {l : Line} (h : Flat l) where
-  addc-flat : (c : ℤ) → Flat (lineOf (addcRow l c))
+  pub addc-flat : (c : ℤ) → Flat (lineOf (addcRow l c))
   unfolding addcRow lineOf
   addc-flat c = record { factor = h .factor; depends = h .depends; flat = h .flat }
 
-  mulc-flat : (c : ℤ) → T (within (lineOf (mulcRow l c))) → Flat (lineOf (mulcRow l c))
+  pub mulc-flat : (c : ℤ) → T (within (lineOf (mulcRow l c))) → Flat (lineOf (mulcRow l c))
   unfolding mulcRow lineOf
   mulc-flat c t = record {
     factor = h .factor;
@@ -67,11 +67,11 @@ module _ {l : Line} (h : Flat l) where
     flat = λ n. product-zero (fromTo c c) (λ v. h .flat n) (spectrum-valid (lineOf (mulcRow l c)) t);
   }
 
-  pow-flat : (m : ℕ) → Flat (lineOf (powRow l m))
+  pub pow-flat : (m : ℕ) → Flat (lineOf (powRow l m))
   unfolding powRow lineOf
   pow-flat m = bent-flat (lineOf (powRow l m)) (h .factor) (h .depends) refl
 
-  inv-flat : Flat (lineOf (invRow l))
+  pub inv-flat : Flat (lineOf (invRow l))
   unfolding invRow lineOf
   inv-flat = bent-flat (lineOf (invRow l)) (h .factor) (h .depends) refl
 
@@ -79,7 +79,7 @@ module _ {l m : Line} (h : Flat l) (k : Flat m) where
   both : T (has (l .support ∪ m .support) (h .factor))
   both = left-in (l .support) (m .support) .into (h .factor) (h .depends)
 
-  add-flat : Flat (lineOf (addRow l m))
+  pub add-flat : Flat (lineOf (addRow l m))
   unfolding addRow lineOf apart sumOf bothValid isValid kept
   add-flat = record {
     factor = h .factor;
@@ -90,12 +90,12 @@ module _ {l m : Line} (h : Flat l) (k : Flat m) where
         rw (e, f, h .flat e, k .flat f);
   }
 
-  mul-flat : Flat (lineOf (mulRow l m))
+  pub mul-flat : Flat (lineOf (mulRow l m))
   unfolding mulRow lineOf
   mul-flat = bent-flat (lineOf (mulRow l m)) (h .factor) both refl
 
 -- ---- the limits
-abbrev FlatLine : Option Jet → Option Jet → Line → Type 0
+abbrev pub FlatLine : Option Jet → Option Jet → Line → Type 0
 FlatLine o u l = Flat l
 
 module _ {os us : List (Option Jet)} {ls : List Line} (r : Along FlatLine os us ls) where
@@ -111,10 +111,13 @@ module _ {os us : List (Option Jet)} {ls : List Line} (r : Along FlatLine os us 
   flat-next (Pow i m) f t = pow-flat (flat-at i (f .0)) m
   flat-next (Inv i) f t = inv-flat (flat-at i f)
 
+pub flat-kept : Kept FlatLine
+flat-kept = record { next = λ o f r t. flat-next r o f t }
+
 module _ (c : Codelist) (xs : List ℤ) (l : Limits) (e : rateOf c xs ≡ rated l) where
   last-flat : Flat (last (accepted c xs l e .lines))
   last-flat =
-      last-line FlatLine (record { next = λ o f r t. flat-next r o f t }) (accepted c xs l e) [] [] (λ a k. factor-flat a (at (pairs xs) a))
+      last-line FlatLine flat-kept (accepted c xs l e) [] [] (λ a k. factor-flat a (at (pairs xs) a))
 
   spectrum-empty : l .nonlinear ≡ 0 → l .spectrum ≡ zeroRange
   unfolding limitsOf

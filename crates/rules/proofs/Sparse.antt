@@ -30,7 +30,7 @@ use Rattle.rules.specs.Rate.{last, limitsOf, rated, pairs, rateOf}
 use Rattle.rules.specs.Exact.{Jet}
 use Rattle.rules.proofs.Members.{outside, left-in, right-in, in-single, Below, beyond, below-power}
 use Rattle.rules.proofs.Enclosed.{at-eight, gradient-valid}
-use Rattle.rules.proofs.Along.{Along, along-line}
+use Rattle.rules.proofs.Along.{Along, along-line, Kept}
 use Rattle.rules.proofs.Accepted.{accepted, last-line}
 
 pub record Sparse (n : ℕ) (l : Line) : Type 0 where
@@ -120,7 +120,7 @@ module _ {n : ℕ} {l m : Line} (h : Sparse n l) (k : Sparse n m) where
       (λ a i o. sum-zero (product-zero (l .value) (right-slope a i o)) (product-zero (m .value) (left-slope a i o)))
 
 -- ---- the limits
-abbrev SparseLine : ℕ → Option Jet → Option Jet → Line → Type 0
+abbrev pub SparseLine : ℕ → Option Jet → Option Jet → Line → Type 0
 SparseLine n o u l = Sparse n l
 
 module _ {n : ℕ} {os us : List (Option Jet)} {ls : List Line} (r : Along (SparseLine n) os us ls) where
@@ -136,11 +136,14 @@ module _ {n : ℕ} {os us : List (Option Jet)} {ls : List Line} (r : Along (Spar
   sparse-next (Pow i m) f t = pow-sparse (sparse-at i (f .0)) m t
   sparse-next (Inv i) f t = inv-sparse (sparse-at i f) t
 
+pub sparse-kept : (n : ℕ) → Kept (SparseLine n)
+sparse-kept n = record { next = λ o f r t. sparse-next r o f t }
+
 module _ (c : Codelist) (xs : List ℤ) (l : Limits) (e : rateOf c xs ≡ rated l) where
   -- of the last line, at any point
   last-sparse : Sparse (c .factors) (last (accepted c xs l e .lines))
   last-sparse =
-      last-line (SparseLine (c .factors)) (record { next = λ o f r t. sparse-next r o f t }) (accepted c xs l e) [] []
+      last-line (SparseLine (c .factors)) (sparse-kept (c .factors)) (accepted c xs l e) [] []
       (λ a k. factor-sparse (at (pairs xs) a) k)
 
   pub support-below : Below (c .factors) (l .support)

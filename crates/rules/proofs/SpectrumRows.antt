@@ -7,27 +7,31 @@ use lib.Bits.{or-lt}
 use lib.Dec.{T}
 use lib.IntN.{ℤ, pos}
 use Rattle.algebra.proofs.Form as Form
+use Rattle.algebra.proofs.Ordered as Ord
 use Rattle.algebra.proofs.Ring as Ring
 use Rattle.exact.proofs.Rat as Q
-use Rattle.exact.proofs.Rat.{ℚ, _+ℚ_, _*ℚ_, _^ℚ_, 0ℚ, ℚ-ring}
+use Rattle.exact.proofs.Rat.{ℚ, _+ℚ_, _*ℚ_, _^ℚ_, 0ℚ, ℚ-ring, ℚ-ordered}
 use Rattle.exact.proofs.Units.{units}
 use Rattle.range.specs.declared.Range.{Range}
+use Rattle.range.specs.Limit.{zeroRange}
 use Rattle.range.specs.Sums.{has, at}
 use Rattle.range.specs.Inclusion.{_∈_, num}
+use Rattle.range.proofs.Valid.{and-left, and-right}
 use Rattle.range.proofs.Holds.{exactly-∈}
-use Rattle.range.proofs.Bounded.{Bounded, bounded-eq, zero-bounded, sum-bounded, neg-bounded, times-bounded, product-bounded}
+use Rattle.range.proofs.Bounded.{Bounded, bounded-eq, either-bounded, zero-bounded, sum-bounded, neg-bounded, times-bounded, product-bounded}
 use Rattle.range.proofs.InclusionPower.{power-∈}
 use Rattle.rules.specs.declared.Line.{Line}
 use Rattle.rules.specs.Formula.{given, sticky}
-use Rattle.rules.specs.Sets.{none, _∪_}
-use Rattle.rules.specs.Table.{extended, squareSpectrum, factorRow, addRow, addcRow, mulcRow, mulRow, powRow, invRow, lineOf}
+use Rattle.rules.specs.Sets.{none, _∪_, apart, isSingle, only}
+use Rattle.rules.specs.Table.{extended, squareSpectrum, productSpectrum, singles, starSpectrum, factorRow, addRow, addcRow, mulcRow, mulRow, powRow, invRow, lineOf}
 use Rattle.rules.specs.Exact.{Point, Jet, factorJet, addJet, addcJet, mulcJet, mulJet, powJet, invJet}
 use Rattle.rules.proofs.Members.{_⊆_, ⊆-refl, ⊆-trans, left-in, right-in, union-in, outside}
 use Rattle.rules.proofs.InnerProducts.{weight, weight-nonneg}
 use Rattle.rules.proofs.Forms as Forms
 use Rattle.rules.proofs.SpectrumSum.{extended-bounded, spectrumOfSum-bounded}
-use Rattle.rules.proofs.Gradient.{Gradient}
+use Rattle.rules.proofs.Gradient.{Gradient, the-only}
 use Rattle.rules.proofs.SpectrumSquare.{squareSpectrum-bounded}
+use Rattle.rules.proofs.SpectrumStar.{over-only, starSpectrum-bounded}
 use Rattle.rules.proofs.SpectrumCross.{crossSpectrum-bounded}
 
 -- v'Hv and u·v over the eight factors
@@ -47,6 +51,7 @@ pub record Known (l : Line) (j : Jet) : Type 0 where
   pub gradient : (a : ℕ) → a < 8 → j .first a ∈ at (l .gradient) a
   pub outside-support : (a : ℕ) → ¬ T (has (l .support) a) → j .first a ≡ 0ℚ
   pub nonlinear-in : l .nonlinear ⊆ l .support
+  pub flat : l .nonlinear ≡ 0 → l .spectrum ≡ zeroRange
   pub small : l .support < 256
 
 -- the gradient of a line, over its support or a larger set
@@ -85,11 +90,10 @@ mulc-curved {x} {j} c X = record {
       (sym (Form.form-ext ℚ-ring 8 v (λ a b. Q.*ℚ-comm (j .second a b) (units c)) ∙ Form.form-scale ℚ-ring 8 (units c) (j .second) v));
 }
 
--- what the rule of mul bounds
+-- what the rules of mul bound
 module _ {x y : Line} {j k : Jet} (K : Known x j) (L : Known y k) (X : Curved x j) (Y : Curved y k) where
-  product-spectrum-bounded : (v : ℕ → ℚ) → Bounded (weight (x .support ∪ y .support) v) (sticky (mulRow x y .spectrum))
+  product-spectrum-bounded : (v : ℕ → ℚ) → Bounded (weight (x .support ∪ y .support) v) (sticky (productSpectrum x y))
       (num 2 *ℚ dot v (j .first) *ℚ dot v (k .first) +ℚ (k .value *ℚ form (j .second) v +ℚ j .value *ℚ form (k .second) v))
-  unfolding mulRow
   product-spectrum-bounded v =
       sum-bounded
       (crossSpectrum-bounded (gradient-over K left small) (gradient-over L right small) v)
@@ -108,12 +112,30 @@ module _ {x y : Line} {j k : Jet} (K : Known x j) (L : Known y k) (X : Curved x 
       small : (x .support ∪ y .support) < 256
       small = or-lt 8 (x .support) (y .support) (K .small) (L .small)
 
+  star-spectrum-bounded : T (singles x y) → (v : ℕ → ℚ) → Bounded (weight (x .support ∪ y .support) v) (sticky (starSpectrum x y))
+      (num 2 *ℚ dot v (j .first) *ℚ dot v (k .first) +ℚ (k .value *ℚ form (j .second) v +ℚ j .value *ℚ form (k .second) v))
+  star-spectrum-bounded t v =
+      let u = and-right (isSingle (x .support)) _ t in
+      let w = and-right (isSingle (y .support)) _ u in
+      let D = gradient-over K (⊆-refl (x .support)) (K .small) in
+      let F = gradient-over L (⊆-refl (y .support)) (L .small) in
+      let o = the-only D (and-left (isSingle (x .support)) _ t) in
+      let q = the-only F (and-left (isSingle (y .support)) _ u) in
+      starSpectrum-bounded D F o q (and-left (apart (x .support) (y .support)) _ w) v
+      (product-bounded (Ord.square-nonneg ℚ-ordered (v (only (x .support)))) (L .value) (over-only v (K .nonlinear-in) o (K .flat) (X .curved v)))
+      (product-bounded (Ord.square-nonneg ℚ-ordered (v (only (y .support)))) (K .value) (over-only v (L .nonlinear-in) q (L .flat) (Y .curved v)))
+
+  mul-spectrum-bounded : (v : ℕ → ℚ) → Bounded (weight (x .support ∪ y .support) v) (sticky (mulRow x y .spectrum))
+      (num 2 *ℚ dot v (j .first) *ℚ dot v (k .first) +ℚ (k .value *ℚ form (j .second) v +ℚ j .value *ℚ form (k .second) v))
+  unfolding mulRow
+  mul-spectrum-bounded v = either-bounded (singles x y) (λ t. star-spectrum-bounded t v) (λ t. product-spectrum-bounded v)
+
   pub mul-curved : Curved (lineOf (mulRow x y)) (mulJet j k)
   unfolding lineOf mulRow mulJet
   mul-curved = record {
     curved = λ v.
         bounded-eq
-        (product-spectrum-bounded v)
+        (mul-spectrum-bounded v)
         (sym (Forms.mul-form ℚ-ring 8 (j .value) (k .value) (j .second) (k .second) (j .first) (k .first) v));
   }
 

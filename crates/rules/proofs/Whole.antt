@@ -27,6 +27,7 @@ use Rattle.rules.proofs.Independent.{mulc-independent, pow-independent,
 use Rattle.rules.proofs.Enclosed.{Enclosed, value-∈, first-∈, spectrum-valid, divisor, factor-enclosed, addc-enclosed, mulc-enclosed}
 use Rattle.rules.proofs.Enclosed.{pow-enclosed, inv-enclosed, add-enclosed, mul-enclosed}
 use Rattle.rules.proofs.Sparse.{Sparse, factor-sparse, addc-sparse, mulc-sparse, pow-sparse, inv-sparse, add-sparse, mul-sparse}
+use Rattle.rules.proofs.Shaped.{Flat, factor-flat, addc-flat, mulc-flat, pow-flat, inv-flat, add-flat, mul-flat}
 use Rattle.rules.proofs.SpectrumRows.{Curved, Known, factor-curved, addc-curved, mulc-curved, pow-curved, inv-curved, add-curved}
 use Rattle.rules.proofs.SpectrumRows.{mul-curved}
 use Rattle.rules.proofs.Along.{Along, along-line, Kept}
@@ -39,6 +40,7 @@ pub record Whole (n : ℕ) (p q : Point) (x : Jet) (u : Option Jet) (l : Line) :
   pub curved : Curved l x
   pub valid : T (isValid (l .spectrum))
   pub sparse : Sparse n l
+  pub flat : Flat l
 
 -- there is a value at p, of which all that holds
 abbrev pub WholeLine : ℕ → Point → Point → Option Jet → Option Jet → Line → Type 0
@@ -55,6 +57,7 @@ module _ (n : ℕ) (most : n ≤ 8) (p q : Point) where
     curved = factor-curved p i r;
     valid = tt;
     sparse = factor-sparse r h;
+    flat = factor-flat i r;
   }
 
   known : {x : Jet} {u : Option Jet} {l : Line} → Whole n p q x u l → Known l x
@@ -63,6 +66,7 @@ module _ (n : ℕ) (most : n ≤ 8) (p q : Point) where
     gradient = first-∈ (W .enclosed);
     outside-support = W .supported .first;
     nonlinear-in = W .supported .inside;
+    flat = W .flat .flat;
     small = omega (arith, W .sparse .few, pow-mono {i = n} {j = 8} most);
   }
 
@@ -78,6 +82,7 @@ module _ (n : ℕ) (most : n ≤ 8) (p q : Point) where
       curved = addc-curved c (W .curved);
       valid = W .valid;
       sparse = addc-sparse (W .sparse) c t;
+      flat = addc-flat (W .flat) c;
     }
 
     whole-mulc : (c : ℤ) → T (within (lineOf (mulcRow l c)))
@@ -90,6 +95,7 @@ module _ (n : ℕ) (most : n ≤ 8) (p q : Point) where
       curved = mulc-curved c (W .curved);
       valid = spectrum-valid (lineOf (mulcRow l c)) t;
       sparse = mulc-sparse (W .sparse) c t;
+      flat = mulc-flat (W .flat) c t;
     }
 
     whole-pow : (m : ℕ) → 2 ≤ m → T (within (lineOf (powRow l m)))
@@ -102,6 +108,7 @@ module _ (n : ℕ) (most : n ≤ 8) (p q : Point) where
       curved = pow-curved (known W) (W .curved) m two;
       valid = spectrum-valid (lineOf (powRow l m)) t;
       sparse = pow-sparse (W .sparse) m t;
+      flat = pow-flat (W .flat) m;
     }
 
     -- y is 1/x, which there is
@@ -116,6 +123,7 @@ module _ (n : ℕ) (most : n ≤ 8) (p q : Point) where
         curved = inv-curved (known W) (W .curved) y (value-∈ (inv-enclosed (W .enclosed) t y e));
         valid = spectrum-valid (lineOf (invRow l)) t;
         sparse = inv-sparse (W .sparse) t;
+        flat = inv-flat (W .flat);
       }
 
       inverted : (r : Option ℚ) → Recip (x .value) r
@@ -133,6 +141,7 @@ module _ (n : ℕ) (most : n ≤ 8) (p q : Point) where
       curved = add-curved (W .curved) (X .curved);
       valid = spectrum-valid (lineOf (addRow l m)) t;
       sparse = add-sparse (W .sparse) (X .sparse) t;
+      flat = add-flat (W .flat) (X .flat);
     }
 
     whole-mul : T (within (lineOf (mulRow l m))) → Whole n p q (mulJet x y) (using2 mulJet u v) (lineOf (mulRow l m))
@@ -144,6 +153,7 @@ module _ (n : ℕ) (most : n ≤ 8) (p q : Point) where
       curved = mul-curved (known W) (known X) (W .curved) (X .curved);
       valid = spectrum-valid (lineOf (mulRow l m)) t;
       sparse = mul-sparse (W .sparse) (X .sparse) t;
+      flat = mul-flat (W .flat) (X .flat);
     }
 
   -- ---- an operation, over the lines before it

@@ -16,6 +16,7 @@ use Rattle.range.specs.Limit.{fromTo, zeroRange, isValid, bothValid, kept}
 use Rattle.range.specs.Arithmetic.{sumOf, negOf, timesOf, endsProduct, productOf, endsInverse, inverseOf, hullOf}
 use Rattle.range.specs.Power.{chain, upsWithin, powAbove, powBelow, powAcrossEven, powAcrossOdd, powAcross, powBySign, powOf}
 use Rattle.range.specs.Sums.{has, sumOver, validBelow, endsProducts, productsOf, largestSquare, squareSum, squaresOf, rootSum, rootOf}
+use Rattle.range.specs.Star.{magnitudeOf, starRoot, endsStar, isHalf, starOf}
 use Rattle.rules.specs.declared.Refusal.the-variants.{Divisor, Overflow}
 use Rattle.rules.specs.declared.Rating.{Rating}
 use Rattle.rules.specs.Sets.{apart, isSingle, only}
@@ -109,14 +110,57 @@ figures =
           let e = fromTo (− 10000) (pos 30000) in
           limits (40000 to 120000) (slopes (50000 to 80000) (10000 to 20000)) 3 3 e e;
     }
-    -- Both ranges 10000..10000, `pow→1→2`, `mul→3→2`: E −20000..40000
+    -- Both ranges 10000..10000, `pow→1→2`, `mul→3→2`: "The figure of 01 with E −20000..40000 becomes −12361..32361" (02, request 4); and with
+    -- `mul→2→3`, and `pow→2→2`, `mul→1→3`
     ∷ record {
       factors = 2;
       operations = Pow 1 2 ∷ Mul 3 2 ∷ [];
       ranges = 10000 to 10000 ∷ 10000 to 10000 ∷ [];
-      gives =
-          let e = fromTo (− 20000) (pos 40000) in
-          limits (10000 to 10000) (slopes (20000 to 20000) (10000 to 10000)) 3 3 e e;
+      gives = let e = fromTo (− 12361) (pos 32361) in limits (10000 to 10000) (slopes (20000 to 20000) (10000 to 10000)) 3 3 e e;
+    }
+    ∷ record {
+      factors = 2;
+      operations = Pow 1 2 ∷ Mul 2 3 ∷ [];
+      ranges = 10000 to 10000 ∷ 10000 to 10000 ∷ [];
+      gives = let e = fromTo (− 12361) (pos 32361) in limits (10000 to 10000) (slopes (20000 to 20000) (10000 to 10000)) 3 3 e e;
+    }
+    ∷ record {
+      factors = 2;
+      operations = Pow 2 2 ∷ Mul 1 3 ∷ [];
+      ranges = 10000 to 10000 ∷ 10000 to 10000 ∷ [];
+      gives = let e = fromTo (− 12361) (pos 32361) in limits (10000 to 10000) (slopes (10000 to 10000) (20000 to 20000)) 3 3 e e;
+    }
+    -- both lines bent
+    ∷ record {
+      factors = 2;
+      operations = Pow 1 2 ∷ Pow 2 2 ∷ Mul 3 4 ∷ [];
+      ranges = 10000 to 20000 ∷ 10000 to 10000 ∷ [];
+      gives = let e = fromTo (− 60000) (pos 135441) in limits (10000 to 40000) (slopes (20000 to 40000) (20000 to 80000)) 3 3 e e;
+    }
+    -- "when an end of A, B or C passes 1,000,000,000 units": C at that, and one unit more; A at that, and above
+    ∷ record {
+      factors = 2;
+      operations = Pow 1 2 ∷ MulC 2 (pos 1000000000) ∷ Mul 3 4 ∷ [];
+      ranges = 5000 to 5000 ∷ 0 to 0 ∷ [];
+      gives = let e = fromTo (− 1000000000) (pos 1000000000) in limits (0 to 0) (slopes (0 to 0) (250000000 to 250000000)) 3 3 e e;
+    }
+    ∷ record {
+      factors = 2;
+      operations = Pow 1 2 ∷ MulC 2 (pos 1000000001) ∷ Mul 3 4 ∷ [];
+      ranges = 5000 to 5000 ∷ 0 to 0 ∷ [];
+      gives = refused (Overflow 5);
+    }
+    ∷ record {
+      factors = 2;
+      operations = Pow 1 2 ∷ Mul 3 2 ∷ [];
+      ranges = 0 to 0 ∷ 500000000 to 500000000 ∷ [];
+      gives = let e = 0 to 1000000000 in limits (0 to 0) (slopes (0 to 0) (0 to 0)) 3 3 e e;
+    }
+    ∷ record {
+      factors = 2;
+      operations = Pow 1 2 ∷ Mul 3 2 ∷ [];
+      ranges = 0 to 0 ∷ 500000001 to 500000001 ∷ [];
+      gives = refused (Overflow 4);
     }
     -- `inv→1` on 0..10000: 11 at line 2
     ∷ record { factors = 1; operations = Inv 1 ∷ []; ranges = 0 to 10000 ∷ []; gives = refused (Divisor 2) }
@@ -164,5 +208,6 @@ unfolding rateOf rateRanges firstBad limitsOf last linesOf runOps factorLines ro
     isValid bothValid kept sumOf negOf timesOf endsProduct productOf endsInverse inverseOf hullOf
     chain upsWithin powAbove powBelow powAcrossEven powAcrossOdd powAcross powBySign powOf
     has sumOver sumBelow validBelow endsProducts productsOf largestSquare squareSum squaresOf rootSum rootOf
+    magnitudeOf starRoot endsStar isHalf starOf
     floorDiv ceilDiv floorQuot ceilQuot ceilSqrt floorSqrt rootBits ones onesIn trailingZeros
 all-right = refl

@@ -8,6 +8,7 @@ use Rattle.range.specs.Arithmetic.{endsSum, endsNeg, endsTimes, endsProduct, en
 use Rattle.range.specs.Arithmetic.{sumOf, negOf, timesOf, productOf, inverseOf, hullOf}
 use Rattle.range.specs.Power.{endsPow, powOf, upsOf}
 use Rattle.range.specs.Sums.{endsProducts, productsOf, endsSquares, squaresOf, endsRoot, rootOf}
+use Rattle.range.specs.Star.{endsStar, starOf}
 
 infixl 65 _⊕_
 infixl 70 _⊗_
@@ -26,6 +27,8 @@ pub data Formula : Type 0 where
   sumOfProducts : ℕ → List Range → List Range → Formula
   sumOfSquares : ℕ → List Range → Formula
   rootOfSquares : ℕ → List Range → List Range → Formula
+  -- 02, request 4: the bend of a product of two lines of one factor each (`endsStar` of range's Star)
+  star : Formula → Formula → Formula → Formula
   -- one of two formulas, by a test
   choose : Bool → Formula → Formula → Formula
 
@@ -42,6 +45,7 @@ sticky (hull x y) = hullOf (sticky x) (sticky y)
 sticky (sumOfProducts s g h) = productsOf s g h
 sticky (sumOfSquares s g) = squaresOf s g
 sticky (rootOfSquares s g h) = rootOf s g h
+sticky (star x y z) = starOf (sticky x) (sticky y) (sticky z)
 sticky (choose c x y) = cond c (sticky x) (sticky y)
 
 -- The value in the arithmetic without a limit: 01's ends alone.
@@ -57,10 +61,16 @@ unlimited (hull x y) = endsHull (unlimited x) (unlimited y)
 unlimited (sumOfProducts s g h) = endsProducts s g h
 unlimited (sumOfSquares s g) = endsSquares s g
 unlimited (rootOfSquares s g h) = endsRoot s g h
+unlimited (star x y z) = endsStar (unlimited x) (unlimited y) (unlimited z)
 unlimited (choose c x y) = cond c (unlimited x) (unlimited y)
 
+-- a range's steps, and twice the range: its end passes the limit where one of the range passes half of it
+abbrev pub doubled : List Range → Range → List Range
+doubled rs r = rs ++ (endsTimes 2 r ∷ [])
+
 -- The ranges that its steps produce: refusal 12 speaks of their ends. Of a power "every U value used, at each step, counts as an end"; of a
--- sum over a set "only its total counts"; "β counts as an end and the two sums do not". A formula that stands twice in a row is listed twice,
+-- sum over a set "only its total counts"; "β counts as an end and the two sums do not"; of `star`, "when an end of A, B or C passes
+-- 1,000,000,000 units", while "R and R' are no ends". A formula that stands twice in a row is listed twice,
 -- to no effect; of `choose`, the steps of the formula taken are listed alone.
 unfoldable pub produced : Formula → List Range
 produced (given r) = []
@@ -74,4 +84,7 @@ produced (hull x y) = produced x ++ (produced y ++ (unlimited (hull x y) ∷ [])
 produced (sumOfProducts s g h) = unlimited (sumOfProducts s g h) ∷ []
 produced (sumOfSquares s g) = unlimited (sumOfSquares s g) ∷ []
 produced (rootOfSquares s g h) = unlimited (rootOfSquares s g h) ∷ []
+produced (star x y z) =
+    doubled (produced x) (unlimited x) ++ (doubled (produced y) (unlimited y)
+    ++ (doubled (produced z) (unlimited z) ++ (unlimited (star x y z) ∷ [])))
 produced (choose c x y) = cond c (produced x) (produced y)

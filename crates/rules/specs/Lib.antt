@@ -9,4 +9,5 @@ pub mod Published
 pub mod Refused
 pub mod Exact
 pub mod Promises
+pub mod Sharper
 pub mod Figures

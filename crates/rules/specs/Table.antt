@@ -1,6 +1,6 @@
--- 01, "Sets and bends": lift, join, Sq and Cross, and the table, row by row, as formulas over the lines that a row refers to. "Special cases
--- 4, 7 and 10 of Table 6 in 000 are not applied."
-use mathlib.Core.Bool.{cond}
+-- 01, "Sets and bends": lift, join, Sq and Cross, and the table, row by row, as formulas over the lines that a row refers to; and 02, request
+-- 4: cases 4, 7 and 10 of Table 6 in 000.
+use mathlib.Core.Bool.{Bool, not, _&&_, cond}
 use mathlib.Core.List.{List, [], _∷_}
 use Prim.Native.Nat.{ℕ, _-_}
 use lib.Dec.{eqb}
@@ -10,7 +10,7 @@ use Rattle.range.specs.Limit.{fromTo, zeroRange, oneRange}
 use Rattle.range.specs.Sums.{at}
 use Rattle.rules.specs.declared.Line.{Line}
 use Rattle.rules.specs.Formula.{Formula, given, _⊕_, _⊗_, negated, times, power, inverse, hull, choose, sticky}
-use Rattle.rules.specs.Formula.{sumOfProducts, sumOfSquares, rootOfSquares}
+use Rattle.rules.specs.Formula.{sumOfProducts, sumOfSquares, rootOfSquares, star}
 use Rattle.rules.specs.Sets.{none, single, _∪_, apart, isSingle, only}
 
 -- ════ spectra ════
@@ -101,18 +101,35 @@ mulcRow x c = record {
   spectrum = constant c ⊗ spectrumOf x;
 }
 
--- mul: "V_i·V_j | V_i·G_j + V_j·G_i | both: union of P | Cross + lift of join(V_j·E_i, V_i·E_j)"
+-- 01's E of a `mul`: "Cross + lift of join(V_j·E_i, V_i·E_j)"
+abbrev pub productSpectrum : Line → Line → Formula
+productSpectrum x y =
+    let s = x .support ∪ y .support in
+    let join = spectrumOfSum (valueOf y ⊗ spectrumOf x) (x .nonlinear) (valueOf x ⊗ spectrumOf y) (y .nonlinear) in
+    crossSpectrum s (x .gradient) (y .gradient) ⊕ extended join (x .nonlinear ∪ y .nonlinear) s
+
+-- 02, request 4: "`mul` of lines whose depends-on sets are one factor each, different, at least one bent"; by P and B of the two
+abbrev pub areSingles : ℕ → ℕ → ℕ → ℕ → Bool
+areSingles p q b c = isSingle p && (isSingle q && (apart p q && not (eqb (b ∪ c) none)))
+
+abbrev pub singles : Line → Line → Bool
+singles x y = areSingles (x .support) (y .support) (x .nonlinear) (y .nonlinear)
+
+-- "With A = V_j·E_i, B = V_i·E_j and C the product of the two slopes"; where a line is not bent its E is zero: cases 4 and 7
+abbrev pub starSpectrum : Line → Line → Formula
+starSpectrum x y =
+    star (valueOf y ⊗ spectrumOf x) (valueOf x ⊗ spectrumOf y) (slopeOf x (only (x .support)) ⊗ slopeOf y (only (y .support)))
+
+-- mul: "V_i·V_j | V_i·G_j + V_j·G_i | both: union of P", and E by the lines' sets
 unfoldable pub mulRow : Line → Line → Row
 mulRow x y =
     let s = x .support ∪ y .support in
-    let b = x .nonlinear ∪ y .nonlinear in
-    let join = spectrumOfSum (valueOf y ⊗ spectrumOf x) (x .nonlinear) (valueOf x ⊗ spectrumOf y) (y .nonlinear) in
     record {
       value = valueOf x ⊗ valueOf y;
       slope = λ a. valueOf x ⊗ slopeOf y a ⊕ valueOf y ⊗ slopeOf x a;
       support = s;
       nonlinear = s;
-      spectrum = crossSpectrum s (x .gradient) (y .gradient) ⊕ extended join b s;
+      spectrum = choose (singles x y) (starSpectrum x y) (productSpectrum x y);
     }
 
 -- pow: "V_i^m | m(V_i^(m−1)·G_i) | both P_i | m(V_i^(m−2)·((m−1)·Sq + V_i·lift E_i))"

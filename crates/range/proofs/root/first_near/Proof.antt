@@ -9,7 +9,7 @@ use Rattle.range.proofs.root.first_near.Tie as tie
 
 -- the power and the quotient, with room for their sum
 sum-bound : (c : tie.After-half-digits)
-    → let p = 2 ^ (c .half-digits .result) in 1 * p % 18446744073709551616 + c .before .args .x / p ≤ 4000000004294967296
+    → let p = 2 ^ (c .half-digits .result) in 1 * p % 18446744073709551616 + c .before .args .x / p ≤ 9000000004294967296
 sum-bound c =
     let h = c .half-digits .result in
     omega (arith, pow-mono {i = h} {j = 32} (c .half-digits .ensures), div-le-self (c .before .args .x) (2 ^ h))

@@ -7,7 +7,7 @@ use Rattle.range.proofs.root.least_root.Statement.{statement}
 use Rattle.range.proofs.root.least_root.Tie as tie
 
 abbrev Inv-loop : tie.InvT-loop
-Inv-loop x from r₀ r = (r ≤ 2000000000) × (x ≤ r * r) × (1 ≤ r)
+Inv-loop x from r₀ r = (r ≤ 3000000000) × (x ≤ r * r) × (1 ≤ r)
 
 abbrev μ-loop : tie.MeasureT-loop
 μ-loop x from r₀ r = r

@@ -7,7 +7,7 @@ use Rattle.range.proofs.root.near_root.Statement.{statement}
 use Rattle.range.proofs.root.near_root.Tie as tie
 
 abbrev Inv-loop : tie.InvT-loop
-Inv-loop x r₀ k₀ r k = (1 ≤ r) × (r ≤ 4000000000000000002) × (x ≤ 4000000000000000000)
+Inv-loop x r₀ k₀ r k = (1 ≤ r) × (r ≤ 9000000000000000002) × (x ≤ 9000000000000000000)
 
 abbrev μ-loop : tie.MeasureT-loop
 μ-loop x r₀ k₀ r k = 2 - k

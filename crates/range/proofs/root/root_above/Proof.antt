@@ -1,4 +1,4 @@
--- `range::root::root_above` meets its contract: the number stays at or below 2,000,000,000, whose square is not below x. Assumes nothing.
+-- `range::root::root_above` meets its contract: the number stays at or below 3,000,000,000, whose square is not below x. Assumes nothing.
 use borrow.Author.Needs.{needs}
 use Prim.Native.Nat.{_≤_, _<_, _-_}
 use native.Mathlib.Omega.{arith}
@@ -8,10 +8,10 @@ use Rattle.range.proofs.root.root_above.Statement.{statement}
 use Rattle.range.proofs.root.root_above.Tie as tie
 
 abbrev Inv-loop : tie.InvT-loop
-Inv-loop x from r₀ r = r ≤ 2000000000
+Inv-loop x from r₀ r = r ≤ 3000000000
 
 abbrev μ-loop : tie.MeasureT-loop
-μ-loop x from r₀ r = 2000000000 - r
+μ-loop x from r₀ r = 3000000000 - r
 
 loop-holds : tie.Need-loop-holds Inv-loop μ-loop
 loop-holds c = search needs
@@ -23,10 +23,10 @@ add-r : tie.Need-add-r Inv-loop μ-loop
 add-r c = search needs
 
 loop-less : tie.Need-loop-less Inv-loop μ-loop
-loop-less c = let h : c .before .loop .r < 2000000000 = root-lt (omega arith) in omega arith
+loop-less c = let h : c .before .loop .r < 3000000000 = root-lt (omega arith) in omega arith
 
 loop-again : tie.Need-loop-again Inv-loop μ-loop
-loop-again c = let h : c .before .loop .r < 2000000000 = root-lt (omega arith) in omega arith
+loop-again c = let h : c .before .loop .r < 3000000000 = root-lt (omega arith) in omega arith
 
 returns : tie.Need-returns Inv-loop μ-loop
 returns c = (search needs, search needs)

@@ -1,15 +1,14 @@
--- `bounds::rows::product_spectrum` meets its contract. Assumes nothing.
+-- `bounds::rows::joined_spectrum` meets its contract. Assumes nothing.
 use borrow.Author.Needs.{needs}
 use mathlib.Core.Path.{ap, _∙_}
 use Rattle.range.specs.Limit.{isValid}
 use Rattle.rules.specs.Sets.{_∪_}
-use Rattle.rules.specs.Table.{mulRow}
 use Rattle.bounds.specs.Terms.{Told}
 use Rattle.bounds.specs.Table.{gradientAt}
 use Rattle.bounds.proofs.Operands.{told-product, told-extended, told-sum-spectrum, told-cross-spectrum}
 use Rattle.bounds.proofs.Validity.{value-valid, spectrum-valid}
-use Rattle.bounds.proofs.rows.product_spectrum.Statement.{statement}
-use Rattle.bounds.proofs.rows.product_spectrum.Tie as tie
+use Rattle.bounds.proofs.rows.joined_spectrum.Statement.{statement}
+use Rattle.bounds.proofs.rows.joined_spectrum.Tie as tie
 
 -- where the function starts, seen from its first product
 abbrev start : tie.After-product → tie.Start
@@ -57,7 +56,6 @@ told-sum-requires c κs =
     )
 
 returns : tie.Need-returns
-unfolding mulRow
 returns c =
     let cross = c .before .before in
     let own = cross .before in
@@ -81,8 +79,8 @@ returns c =
       sets .before .before .before .support .ensures,
     )
 
-pub product-spectrum-spec : {M : Type 1} → statement M
-product-spectrum-spec =
+pub joined-spectrum-spec : {M : Type 1} → statement M
+joined-spectrum-spec =
     tie.close
     (tie.spec
     (λ c κs. search needs)
