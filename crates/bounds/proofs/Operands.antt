@@ -11,6 +11,7 @@ use Rattle.range.specs.declared.Range.{Range}
 use Rattle.range.specs.Limit.{least, most, zeroRange, over, isValid, bothValid, kept, sticky₂}
 use Rattle.range.specs.Arithmetic.{endsSum, sumOf, timesOf, endsProduct, productOf, inverseOf, hullOf}
 use Rattle.range.specs.Power.{powOf}
+use Rattle.range.specs.Star.{starOf}
 use Rattle.range.specs.Laws.{Settled}
 use Rattle.range.proofs.Valid.{T-true, true-T, both-valid, if-passed, by-test, ends-of}
 use Rattle.range.proofs.Fitting.{and-first, and-second}
@@ -73,6 +74,9 @@ told-power a e = settled-told (powOf a e) (laws .closure .power a e)
 
 pub told-inverse : (a : Range) → Told (inverseOf a)
 told-inverse a = settled-told (inverseOf a) (laws .closure .inverse a)
+
+pub told-star : (a b c : Range) → Told (starOf a b c)
+told-star a b c = settled-told (starOf a b c) (laws .closure .star a b c)
 
 pub told-valid : (r : Range) → isValid r ≡ true → Told r
 told-valid r v = settled-told r (inl v)
