@@ -1,9 +1,10 @@
-/* The rules of paper 01, with request 2 of 02, in plain C, unverified and written for speed: what the proved engine is timed against.
+/* The rules of paper 01, with requests 2 and 4 of 02, in plain C, unverified and written for speed: what the proved engine is timed against.
    reference < INPUT prints what `rate` prints; reference N < INPUT loads once, rates N times and prints the last result.
 
    Ends of ranges are within 2,000,000,000 units, so a product of two fits 64 bits; only a sum of squares and the product under Cross's root may
    need more.
-   The two sets of a line do not depend on the ranges: loading works them out, and slopes outside depends-on sets stay 0. */
+   The two sets of a line do not depend on the ranges: loading works them out, and so which `mul` is one of request 4; slopes outside
+   depends-on sets stay 0. */
 #include <math.h>
 #include <stdint.h>
 #include <stdio.h>
@@ -11,6 +12,7 @@
 #include <string.h>
 
 #define LIMIT 2000000000LL
+#define PAIR_LIMIT 1000000000LL /* of A, B and C in request 4 */
 #define UNIT 10000LL
 #define MOST_FACTORS 8
 #define MOST_LINES 64
@@ -19,7 +21,7 @@
 
 typedef struct { int64_t low, high; } Range;
 typedef struct { Range value, bend, slopes[MOST_FACTORS]; } Line;
-typedef enum { ADD, MUL, ADDC, MULC, POW, INV } Name;
+typedef enum { ADD, MUL, ADDC, MULC, POW, INV, PAIR } Name; /* PAIR: a `mul` of two single-factor lines, at least one bent */
 typedef struct { Name name; int i, j; int64_t number; } Operation; /* number: constant or exponent; lines counted from 0 */
 typedef struct {
     int factors, lines;
@@ -37,11 +39,13 @@ static inline int64_t down(int64_t x) { return x / UNIT - (x % UNIT < 0); }
 static inline int64_t up(int64_t x) { return x / UNIT + (x % UNIT > 0); }
 static inline int64_t lesser(int64_t x, int64_t y) { return x < y ? x : y; }
 static inline int64_t greater(int64_t x, int64_t y) { return x > y ? x : y; }
+static inline int64_t half_down(int64_t x) { return x >> 1; } /* of a negative number, too: the shift keeps the sign */
 
 static inline Range sum(Range a, Range b) { return (Range){a.low + b.low, a.high + b.high}; }
 static inline Range negation(Range a) { return (Range){-a.high, -a.low}; }
 static inline Range multiple(int64_t k, Range a) { return (Range){k * a.low, k * a.high}; }
 static inline Range hull(Range a, Range b) { return (Range){lesser(a.low, b.low), greater(a.high, b.high)}; }
+static inline int64_t magnitude(Range a) { return greater(-a.low, a.high); }
 
 /* by signs, so that two of the four end products do where one range has one sign */
 static inline Range product(Range a, Range b) {
@@ -98,7 +102,7 @@ static inline Range power(Range a, int e) {
         int64_t least = power_down(-a.high, e), most = power_up(-a.low, e);
         return even ? (Range){least, most} : (Range){-most, -least};
     }
-    if (even) return (Range){0, power_up(greater(-a.low, a.high), e)};
+    if (even) return (Range){0, power_up(magnitude(a), e)};
     return (Range){-power_up(-a.low, e), power_up(a.high, e)};
 }
 
@@ -121,7 +125,7 @@ static inline Range join(Range a, unsigned a_bent, Range b, unsigned b_bent) {
 static inline int64_t squares(const Range *slopes, unsigned over) {
     unsigned __int128 total = UNIT - 1;
     EACH(a, over) {
-        int64_t most = greater(-slopes[a].low, slopes[a].high);
+        int64_t most = magnitude(slopes[a]);
         total += (unsigned __int128)(most * most);
     }
     return total >> 64 ? (int64_t)(total / UNIT) : (int64_t)((uint64_t)total / UNIT);
@@ -132,7 +136,7 @@ static inline Range square_sum(const Range *slopes, unsigned over) {
     return (Range){0, squares(slopes, over)};
 }
 
-/* the square root rounded up, of at most LIMIT squared */
+/* The square root rounded up, of at most 8,000,000,000,000,000,000. Past 2^53 the double is rounded; its root is less than one off even so. */
 static inline int64_t root_up(uint64_t x) {
     uint64_t root = (uint64_t)sqrt((double)x);
     while (root * root > x) root--;
@@ -222,6 +226,28 @@ static inline int mul_line(Line *z, const Line *x, unsigned px, unsigned bx, con
     return 0;
 }
 
+/* The bend of request 4: a and b are A and B, most is M. Under a root is at most 8 times the square of PAIR_LIMIT; the bend is within LIMIT. */
+static inline Range pair_bend(Range a, Range b, int64_t most) {
+    int64_t low = a.low - b.low, high = a.high - b.high, crossed = 4 * most * most;
+    return (Range){half_down(a.low + b.low - root_up((uint64_t)(low * low + crossed))),
+                   half_down(a.high + b.high + root_up((uint64_t)(high * high + crossed)) + 1)};
+}
+
+/* x depends on factor a alone, y on factor b alone; C's largest magnitude is the product of the slopes' largest, rounded up */
+static inline int pair_line(Line *z, const Line *x, unsigned a, const Line *y, unsigned b) {
+    STEP(value, product(x->value, y->value));
+    STEP(x_slope, product(y->value, x->slopes[a]));
+    STEP(y_slope, product(x->value, y->slopes[b]));
+    Range left = product(y->value, x->bend), right = product(x->value, y->bend);
+    int64_t most = up(magnitude(x->slopes[a]) * magnitude(y->slopes[b]));
+    if (greater(greater(magnitude(left), magnitude(right)), most) > PAIR_LIMIT) return 12;
+    z->value = value;
+    z->slopes[a] = x_slope;
+    z->slopes[b] = y_slope;
+    z->bend = pair_bend(left, right, most);
+    return 0;
+}
+
 static inline int pow_line(Line *z, const Line *x, unsigned px, unsigned bx, int m) {
     STEP(value, power(x->value, m));
     STEP(outer, power(x->value, m - 1));
@@ -285,6 +311,9 @@ static __attribute__((noinline)) Refusal rate(const Sheet *s, const int64_t *num
         case MULC: refused = mulc_line(z, &lines[i], p[i], o->number); break;
         case POW: refused = pow_line(z, &lines[i], p[i], b[i], (int)o->number); break;
         case INV: refused = inv_line(z, &lines[i], p[i], b[i]); break;
+        case PAIR:
+            refused = pair_line(z, &lines[i], (unsigned)__builtin_ctz(p[i]), &lines[j], (unsigned)__builtin_ctz(p[j]));
+            break;
         }
         if (refused) return (Refusal){refused, k + 1};
     }
@@ -323,6 +352,12 @@ static int numeral(Text *t, int64_t *out) {
 
 static int field(Text *t, int64_t *out) { return word(t, "\t") && numeral(t, out); }
 
+/* is a `mul` of these lines one of request 4? */
+static int pair(const Sheet *s, int i, int j) {
+    unsigned p = s->depends[i], q = s->depends[j];
+    return single(p) && single(q) && p != q && (s->bent[i] || s->bent[j]);
+}
+
 static Refusal load(Sheet *s, Text t) {
     static const char *const names[] = {"add\t", "mul\t", "addc\t", "mulc\t", "pow\t", "inv\t"};
     if (t.end - t.at > MOST_SHEET) return (Refusal){1, 0};
@@ -351,6 +386,7 @@ static Refusal load(Sheet *s, Text t) {
         if (two) s->depends[k] |= s->depends[j - 1];
         if (name == ADD) s->bent[k] |= s->bent[j - 1];
         if (name == MUL || name == POW || name == INV) s->bent[k] = s->depends[k];
+        if (name == MUL && pair(s, (int)i, (int)j - 1)) s->operations[k].name = PAIR;
     }
     if (k == s->factors) return (Refusal){4, 1};
     s->lines = k;
