@@ -11,6 +11,7 @@ use mir.Syntax.{w64}
 use mir.Val.{Fits, SFits, toZ, ofZ}
 use mir.ValLaws.{toZ-ofZ}
 use Rattle.algebra.proofs.Int.{ints, neg-abs, add-abs, mul-abs}
+use Rattle.exact.specs.Div.{floorDiv, ceilDiv}
 use Rattle.exact.proofs.Machine.{fits-abs}
 use Rattle.range.specs.declared.Range.{Range}
 use Rattle.range.specs.Arithmetic.{greaterOf}
@@ -159,3 +160,11 @@ module _ (a b m : ℤ) (p : InHalf a) (q : InHalf b) (h : InHalf m) (r : ℤ) (k
   high-made =
       rw (half-read a p, half-read b q, toZ-ofZ w64 (a +ℤ b) (ends-fit a b p q), root-read, toZ-ofZ w64 (a +ℤ b +ℤ r) (more-root-fits a b p q r k))
       (ap (λ z. a +ℤ b +ℤ z) root-made)
+
+-- ---- halves of a number that is passed on
+module _ {x y : ℤ} (f : SFits w64 x) (g : SFits w64 y) where
+  pub halved-down : y ≡ floorDiv (passedOn x) 2 → passedOn y ≡ floorDiv x 2
+  halved-down e = rw (toZ-ofZ w64 y g, e, toZ-ofZ w64 x f)
+
+  pub halved-up : y ≡ ceilDiv (passedOn x) 2 → passedOn y ≡ ceilDiv x 2
+  halved-up e = rw (toZ-ofZ w64 y g, e, toZ-ofZ w64 x f)

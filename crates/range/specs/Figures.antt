@@ -13,6 +13,7 @@ use Rattle.range.specs.Arithmetic.{sumOf, negOf, timesOf, scaledOf, ends
 use Rattle.range.specs.Power.{chain, upsWithin, powAbove, powBelow, powAcrossEven, powAcrossOdd, powAcross, powBySign, powOf}
 use Rattle.range.specs.Sums.{has, sumOver, validBelow, endsProducts, productsOf}
 use Rattle.range.specs.Sums.{largestSquare, squareSum, squaresOf, rootSum, rootOf}
+use Rattle.range.specs.Star.{magnitudeOf, starRoot, endsStar, isHalf, starOf}
 
 record Figure : Type 0 where
   computed : Range
@@ -36,6 +37,9 @@ two g h = g ∷ h ∷ []
 -- all eight factors, each in the whole span
 abbrev eight : List Range
 eight = wholeRange ∷ wholeRange ∷ wholeRange ∷ wholeRange ∷ wholeRange ∷ wholeRange ∷ wholeRange ∷ wholeRange ∷ []
+
+abbrev half : Range
+half = fromTo (− 1000000000) (pos 1000000000)
 
 abbrev figures : List Figure
 figures =
@@ -66,7 +70,7 @@ figures =
     ∷ (productOf (fromTo (pos 10000) (pos 20000)) (fromTo (pos 30000) (pos 40000)) gives fromTo (pos 30000) (pos 80000))
     -- its bend, Cross over two factors: −β..β, where β counts
     ∷ (rootOf 3 (two oneRange zeroRange) (two zeroRange oneRange) gives fromTo (− 10000) (pos 10000))
-    -- `pow→1→2`, `mul→3→2` on 10000..10000: the sum of the products in Cross, and β
+    -- `pow→1→2`, `mul→3→2` on 10000..10000 by 01's rule alone: the sum of the products in Cross, and β
     ∷ (productsOf 3 (two (only (pos 20000)) zeroRange) (two zeroRange oneRange) gives zeroRange)
     ∷ (rootOf 3 (two (only (pos 20000)) zeroRange) (two zeroRange oneRange) gives fromTo (− 20000) (pos 20000))
     -- `inv→1` on 0..10000 has no V (refusal 11); on 1..1 it has, and V_k² passes the limit (refusal 12)
@@ -94,11 +98,21 @@ figures =
     ∷ (squaresOf 3 (two (only (pos 1)) (only (pos 1))) gives fromTo (pos 0) (pos 1))
     ∷ (squaresOf 255 eight gives over)
     ∷ (rootOf 255 eight eight gives over)
+    -- 02, request 4: the same `mul` by its rule, A 20000, B 0 and C 20000 or −20000; halves of −1 and 5, rounded outward; A, B and C up to
+    -- 1,000,000,000, and one of them a unit beyond
+    ∷ (starOf (only (pos 20000)) zeroRange (only (pos 20000)) gives fromTo (− 12361) (pos 32361))
+    ∷ (starOf zeroRange (only (pos 20000)) (only (− 20000)) gives fromTo (− 12361) (pos 32361))
+    ∷ (starOf (only (pos 2)) zeroRange (only (pos 1)) gives fromTo (− 1) (pos 3))
+    ∷ (starOf half half half gives wholeRange)
+    ∷ (starOf (only (pos 1000000001)) zeroRange zeroRange gives over)
+    ∷ (starOf zeroRange (only (− 1000000001)) zeroRange gives over)
+    ∷ (starOf zeroRange zeroRange (only (− 1000000001)) gives over)
     ∷ []
 
 pub figures-hold : map (λ f. f .computed) figures ≡ map (λ f. f .expected) figures
 unfolding sumOf negOf timesOf endsProduct productOf endsInverse inverseOf hullOf
     powOf powBySign powAbove powBelow powAcross powAcrossEven powAcrossOdd chain upsWithin
     productsOf endsProducts squaresOf largestSquare squareSum rootOf rootSum sumOver has validBelow sumBelow
+    magnitudeOf starRoot endsStar isHalf starOf
     isValid bothValid kept floorDiv ceilDiv floorQuot ceilQuot ceilSqrt floorSqrt rootBits
 figures-hold = refl

@@ -49,11 +49,7 @@ fn near_root(x: u64) -> u64
     if 1_000_000 < r {
         r = (r + x / r) / 2 + 1;
     }
-    if r <= GREATEST_ROOT {
-        r
-    } else {
-        GREATEST_ROOT
-    }
+    if r <= GREATEST_ROOT { r } else { GREATEST_ROOT }
 }
 
 // The first number from r on whose square is not below x.

@@ -28,6 +28,18 @@ fn star_root(a: i64, b: i64, m: i64) -> i64
     root_up((d * d + 4 * (m * m)) as u64) as i64
 }
 
+fn half_down(x: i64) -> i64
+    ensures { λ r. ⌜ r ≡ floorDiv x 2 ⌝ }
+{
+    floor_div(x, 2)
+}
+
+fn half_up(x: i64) -> i64
+    ensures { λ r. ⌜ r ≡ ceilDiv x 2 ⌝ }
+{
+    ceil_div(x, 2)
+}
+
 // Half of a + b − R, rounded down.
 fn low_end(a: i64, b: i64, m: i64) -> i64
     requires { ⌜ natAbs a ≤ 1000000000 ⌝ }
@@ -35,7 +47,7 @@ fn low_end(a: i64, b: i64, m: i64) -> i64
     requires { ⌜ natAbs m ≤ 1000000000 ⌝ }
     ensures { λ r. ⌜ r ≡ floorDiv (a +ℤ b -ℤ starRoot a b m) 2 ⌝ }
 {
-    floor_div(a + b - star_root(a, b, m), 2)
+    half_down(a + b - star_root(a, b, m))
 }
 
 // Half of a + b + R, rounded up.
@@ -45,7 +57,7 @@ fn high_end(a: i64, b: i64, m: i64) -> i64
     requires { ⌜ natAbs m ≤ 1000000000 ⌝ }
     ensures { λ r. ⌜ r ≡ ceilDiv (a +ℤ b +ℤ starRoot a b m) 2 ⌝ }
 {
-    ceil_div(a + b + star_root(a, b, m), 2)
+    half_up(a + b + star_root(a, b, m))
 }
 
 impl Range {

@@ -1,5 +1,5 @@
 -- The E of a product of two lines, by either rule, with the lines exchanged. Assumes nothing.
-use mathlib.Core.Path.{_≡_, refl, sym, ap, ap₂, _∙_}
+use mathlib.Core.Path.{_≡_, refl, sym, ap, _∙_}
 use mathlib.Core.Bool.{Bool, true, false, not, _&&_, cond, and-false}
 use mathlib.Core.List.{List}
 use Prim.Native.Nat.{ℕ}
@@ -14,8 +14,8 @@ use Rattle.range.specs.Laws.{Symmetry}
 use Rattle.range.proofs.Laws.{laws}
 use Rattle.rules.specs.declared.Line.{Line}
 use Rattle.rules.specs.Formula.{Formula, given, _⊗_, sticky}
-use Rattle.rules.specs.Sets.{_∪_, apart, isSingle, only}
-use Rattle.rules.specs.Table.{extended, spectrumOfSum, crossSpectrum, productSpectrum, singles, starSpectrum}
+use Rattle.rules.specs.Sets.{_∪_, apart, only}
+use Rattle.rules.specs.Table.{extended, spectrumOfSum, crossSpectrum, productSpectrum, starSpectrum}
 
 abbrev S : Symmetry
 S = laws .symmetry
@@ -28,7 +28,7 @@ swapped : (a b c : Bool) → (a && (b && c)) ≡ (b && (a && c))
 swapped true b c = refl
 swapped false b c = sym (and-false b)
 
-apart-comm : (s t : ℕ) → apart s t ≡ apart t s
+pub apart-comm : (s t : ℕ) → apart s t ≡ apart t s
 unfolding apart
 apart-comm s t = rw (Bits.and-comm s t) (swapped (not (eqb s 0)) (not (eqb t 0)) (eqb (Bits.bitAnd t s) 0))
 
@@ -61,9 +61,3 @@ module _ (x y : Line) where
       let q = at (y .gradient) (only (y .support)) in
       S .star (productOf (y .value) (x .spectrum)) (productOf (x .value) (y .spectrum)) (productOf p q)
       ∙ ap (λ c. starOf (productOf (x .value) (y .spectrum)) (productOf (y .value) (x .spectrum)) c) (S .product p q)
-
-  pub singles-exchanged : singles x y ≡ singles y x
-  singles-exchanged =
-      swapped (isSingle (x .support)) (isSingle (y .support)) _
-      ∙ ap₂ (λ c b. isSingle (y .support) && (isSingle (x .support) && (c && not (eqb b 0))))
-      (apart-comm (x .support) (y .support)) (union-comm (x .nonlinear) (y .nonlinear))

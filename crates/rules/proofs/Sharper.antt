@@ -17,7 +17,7 @@ use Rattle.range.specs.declared.Range.{Range}
 use Rattle.range.specs.Limit.{zeroRange, isValid}
 use Rattle.range.specs.Arithmetic.{sumOf, productOf, hullOf}
 use Rattle.range.specs.Sums.{has, at}
-use Rattle.range.specs.Star.{starOf}
+use Rattle.range.specs.Star.{isHalf, starOf}
 use Rattle.range.specs.Laws.{_⊑_}
 use Rattle.range.proofs.Valid.{and-left, and-right, not-true, if-valid, if-passed}
 use Rattle.range.proofs.Within.{⊑-refl}
@@ -37,7 +37,7 @@ use Rattle.rules.proofs.Accepted.{run-lines}
 use Rattle.rules.proofs.Sparse.{SparseLine, product-zero, factor-sparse, sparse-kept}
 use Rattle.rules.proofs.Shaped.{FlatLine, factor-flat, flat-kept}
 use Rattle.rules.proofs.Nested.{NestedLine, factor-nested, nested-kept}
-use Rattle.rules.proofs.Exchanged.{singles-exchanged, star-exchanged, product-exchanged}
+use Rattle.rules.proofs.Exchanged.{apart-comm, star-exchanged, product-exchanged}
 use Rattle.rules.proofs.SharperCross.{around-cross}
 
 -- what is known of a line
@@ -84,6 +84,24 @@ two {x} {y} X Y t v =
       valid = v;
       half = halves _ _ _ (if-valid (areHalf _ _ _) _ v .0);
     }
+
+-- the same with the lines exchanged
+exchanged : {x y : Line} → Two x y → Two y x
+exchanged {x} {y} P = record {
+  first = P .second;
+  second = P .first;
+  one = P .other;
+  other = P .one;
+  apart = subst T (apart-comm (x .support) (y .support)) (P .apart);
+  valid = subst (λ r. T (isValid r)) (star-exchanged x y) (P .valid);
+  half = record {
+    first = P .half .second;
+    second = P .half .first;
+    third =
+        subst (λ r. T (isHalf r)) (laws .symmetry .product (at (x .gradient) (only (x .support))) (at (y .gradient) (only (y .support))))
+        (P .half .third);
+  };
+}
 
 module _ {x y : Line} (P : Two x y) where
   abbrev A : Formula
@@ -164,13 +182,9 @@ sharper {x} {y} X Y t v = go (ℕ-discrete (x .nonlinear) 0) (ℕ-discrete (y .n
     P : Two x y
     P = two X Y t v
 
-    -- the same with the lines exchanged
-    Q : Two y x
-    Q = two Y X (subst T (singles-exchanged x y) t) (subst (λ r. T (isValid r)) (star-exchanged x y) v)
-
     go : Dec (x .nonlinear ≡ 0) → Dec (y .nonlinear ≡ 0) → sticky (starSpectrum x y) ⊑ sticky (productSpectrum x y)
     go (yes e) d = flat-sharper P e
-    go (no f) (yes e) = rw (star-exchanged x y, product-exchanged x y) (flat-sharper Q e)
+    go (no f) (yes e) = rw (star-exchanged x y, product-exchanged x y) (flat-sharper (exchanged P) e)
     go (no f) (no g) =
         from-lifted P (both-bent P (disjoint-apart (x .nonlinear) (y .nonlinear) f g
         (λ a m k. disjoint P a (X .nested .into a m) (Y .nested .into a k))))

@@ -110,57 +110,14 @@ figures =
           let e = fromTo (− 10000) (pos 30000) in
           limits (40000 to 120000) (slopes (50000 to 80000) (10000 to 20000)) 3 3 e e;
     }
-    -- Both ranges 10000..10000, `pow→1→2`, `mul→3→2`: "The figure of 01 with E −20000..40000 becomes −12361..32361" (02, request 4); and with
-    -- `mul→2→3`, and `pow→2→2`, `mul→1→3`
+    -- Both ranges 10000..10000, `pow→1→2`, `mul→3→2`: "The figure of 01 with E −20000..40000 becomes −12361..32361" (02, request 4)
     ∷ record {
       factors = 2;
       operations = Pow 1 2 ∷ Mul 3 2 ∷ [];
       ranges = 10000 to 10000 ∷ 10000 to 10000 ∷ [];
-      gives = let e = fromTo (− 12361) (pos 32361) in limits (10000 to 10000) (slopes (20000 to 20000) (10000 to 10000)) 3 3 e e;
-    }
-    ∷ record {
-      factors = 2;
-      operations = Pow 1 2 ∷ Mul 2 3 ∷ [];
-      ranges = 10000 to 10000 ∷ 10000 to 10000 ∷ [];
-      gives = let e = fromTo (− 12361) (pos 32361) in limits (10000 to 10000) (slopes (20000 to 20000) (10000 to 10000)) 3 3 e e;
-    }
-    ∷ record {
-      factors = 2;
-      operations = Pow 2 2 ∷ Mul 1 3 ∷ [];
-      ranges = 10000 to 10000 ∷ 10000 to 10000 ∷ [];
-      gives = let e = fromTo (− 12361) (pos 32361) in limits (10000 to 10000) (slopes (10000 to 10000) (20000 to 20000)) 3 3 e e;
-    }
-    -- both lines bent
-    ∷ record {
-      factors = 2;
-      operations = Pow 1 2 ∷ Pow 2 2 ∷ Mul 3 4 ∷ [];
-      ranges = 10000 to 20000 ∷ 10000 to 10000 ∷ [];
-      gives = let e = fromTo (− 60000) (pos 135441) in limits (10000 to 40000) (slopes (20000 to 40000) (20000 to 80000)) 3 3 e e;
-    }
-    -- "when an end of A, B or C passes 1,000,000,000 units": C at that, and one unit more; A at that, and above
-    ∷ record {
-      factors = 2;
-      operations = Pow 1 2 ∷ MulC 2 (pos 1000000000) ∷ Mul 3 4 ∷ [];
-      ranges = 5000 to 5000 ∷ 0 to 0 ∷ [];
-      gives = let e = fromTo (− 1000000000) (pos 1000000000) in limits (0 to 0) (slopes (0 to 0) (250000000 to 250000000)) 3 3 e e;
-    }
-    ∷ record {
-      factors = 2;
-      operations = Pow 1 2 ∷ MulC 2 (pos 1000000001) ∷ Mul 3 4 ∷ [];
-      ranges = 5000 to 5000 ∷ 0 to 0 ∷ [];
-      gives = refused (Overflow 5);
-    }
-    ∷ record {
-      factors = 2;
-      operations = Pow 1 2 ∷ Mul 3 2 ∷ [];
-      ranges = 0 to 0 ∷ 500000000 to 500000000 ∷ [];
-      gives = let e = 0 to 1000000000 in limits (0 to 0) (slopes (0 to 0) (0 to 0)) 3 3 e e;
-    }
-    ∷ record {
-      factors = 2;
-      operations = Pow 1 2 ∷ Mul 3 2 ∷ [];
-      ranges = 0 to 0 ∷ 500000001 to 500000001 ∷ [];
-      gives = refused (Overflow 4);
+      gives =
+          let e = fromTo (− 12361) (pos 32361) in
+          limits (10000 to 10000) (slopes (20000 to 20000) (10000 to 10000)) 3 3 e e;
     }
     -- `inv→1` on 0..10000: 11 at line 2
     ∷ record { factors = 1; operations = Inv 1 ∷ []; ranges = 0 to 10000 ∷ []; gives = refused (Divisor 2) }
@@ -189,6 +146,72 @@ figures =
       operations = MulC 1 (pos 3001771) ∷ MulC 2 (pos 3315022) ∷ Add 3 4 ∷ Inv 5 ∷ [];
       ranges = 2000000 to 2000000 ∷ 2000000 to 2000000 ∷ [];
       gives = limits (0 to 1) (slopes (fromTo (− 301) (pos 0)) (fromTo (− 332) (pos 0))) 3 3 (0 to 40) (0 to 40);
+    }
+    -- 02, request 4: products of two single-factor lines. The figure above with the lines exchanged, `mul→2→3`; case 7, `pow→2→2`, `mul→1→3`
+    ∷ record {
+      factors = 2;
+      operations = Pow 1 2 ∷ Mul 2 3 ∷ [];
+      ranges = 10000 to 10000 ∷ 10000 to 10000 ∷ [];
+      gives =
+          let e = fromTo (− 12361) (pos 32361) in
+          limits (10000 to 10000) (slopes (20000 to 20000) (10000 to 10000)) 3 3 e e;
+    }
+    ∷ record {
+      factors = 2;
+      operations = Pow 2 2 ∷ Mul 1 3 ∷ [];
+      ranges = 10000 to 10000 ∷ 10000 to 10000 ∷ [];
+      gives =
+          let e = fromTo (− 12361) (pos 32361) in
+          limits (10000 to 10000) (slopes (10000 to 10000) (20000 to 20000)) 3 3 e e;
+    }
+    -- case 10, both lines bent: `pow→1→2`, `pow→2→2`, `mul→3→4` on 10000..20000 and 10000..10000 (01's rule: −60000..160000)
+    ∷ record {
+      factors = 2;
+      operations = Pow 1 2 ∷ Pow 2 2 ∷ Mul 3 4 ∷ [];
+      ranges = 10000 to 20000 ∷ 10000 to 10000 ∷ [];
+      gives =
+          let e = fromTo (− 60000) (pos 135441) in
+          limits (10000 to 40000) (slopes (20000 to 40000) (20000 to 80000)) 3 3 e e;
+    }
+    -- two lines of the same factor keep 01's rule: `pow→1→2`, `mul→2→1` on 10000..10000
+    ∷ record {
+      factors = 1;
+      operations = Pow 1 2 ∷ Mul 2 1 ∷ [];
+      ranges = 10000 to 10000 ∷ [];
+      gives = limits (10000 to 10000) (slopes (30000 to 30000) zeroRange) 1 1 (60000 to 60000) (60000 to 60000);
+    }
+    -- "when an end of A, B or C passes 1,000,000,000 units": C at that, and one unit more; A at that, and two units more; B two units more
+    ∷ record {
+      factors = 2;
+      operations = Pow 1 2 ∷ MulC 2 (pos 1000000000) ∷ Mul 3 4 ∷ [];
+      ranges = 5000 to 5000 ∷ 0 to 0 ∷ [];
+      gives =
+          let e = fromTo (− 1000000000) (pos 1000000000) in
+          limits (0 to 0) (slopes (0 to 0) (250000000 to 250000000)) 3 3 e e;
+    }
+    ∷ record {
+      factors = 2;
+      operations = Pow 1 2 ∷ MulC 2 (pos 1000000001) ∷ Mul 3 4 ∷ [];
+      ranges = 5000 to 5000 ∷ 0 to 0 ∷ [];
+      gives = refused (Overflow 5);
+    }
+    ∷ record {
+      factors = 2;
+      operations = Pow 1 2 ∷ Mul 3 2 ∷ [];
+      ranges = 0 to 0 ∷ 500000000 to 500000000 ∷ [];
+      gives = let e = 0 to 1000000000 in limits (0 to 0) (slopes (0 to 0) (0 to 0)) 3 3 e e;
+    }
+    ∷ record {
+      factors = 2;
+      operations = Pow 1 2 ∷ Mul 3 2 ∷ [];
+      ranges = 0 to 0 ∷ 500000001 to 500000001 ∷ [];
+      gives = refused (Overflow 4);
+    }
+    ∷ record {
+      factors = 2;
+      operations = Pow 2 2 ∷ Mul 1 3 ∷ [];
+      ranges = 500000001 to 500000001 ∷ 0 to 0 ∷ [];
+      gives = refused (Overflow 4);
     }
     ∷ []
 

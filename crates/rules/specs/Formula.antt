@@ -64,14 +64,15 @@ unlimited (rootOfSquares s g h) = endsRoot s g h
 unlimited (star x y z) = endsStar (unlimited x) (unlimited y) (unlimited z)
 unlimited (choose c x y) = cond c (unlimited x) (unlimited y)
 
--- a range's steps, and twice the range: its end passes the limit where one of the range passes half of it
+-- The steps of `times 2 x`, from those of x and its value: an end of twice a range passes the limit exactly where one of the range passes half
+-- of it (`half-iff` of Sharper).
 abbrev pub doubled : List Range → Range → List Range
 doubled rs r = rs ++ (endsTimes 2 r ∷ [])
 
 -- The ranges that its steps produce: refusal 12 speaks of their ends. Of a power "every U value used, at each step, counts as an end"; of a
--- sum over a set "only its total counts"; "β counts as an end and the two sums do not"; of `star`, "when an end of A, B or C passes
--- 1,000,000,000 units", while "R and R' are no ends". A formula that stands twice in a row is listed twice,
--- to no effect; of `choose`, the steps of the formula taken are listed alone.
+-- sum over a set "only its total counts"; "β counts as an end and the two sums do not"; of `star`, twice A, B and C ("Refusal 12 is also given at
+-- that line when an end of A, B or C passes 1,000,000,000 units, either sign"), while "R and R' are no ends". A formula that stands twice in a row
+-- is listed twice, to no effect; of `choose`, the steps of the formula taken are listed alone.
 unfoldable pub produced : Formula → List Range
 produced (given r) = []
 produced (x ⊕ y) = produced x ++ (produced y ++ (unlimited (x ⊕ y) ∷ []))

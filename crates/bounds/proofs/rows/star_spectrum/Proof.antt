@@ -29,9 +29,9 @@ product-requires-3 c κs =
     let a = start .args in
     let lines = start .pre .1 .1 in (
       read-valid _ (gradientAt (a .t .now) (a .i)) (only (first .before .support .result)) (first .only-of .ensures)
-      (gradient-valid _ (lines .0 .valid)),
+          (gradient-valid _ (lines .0 .valid)),
       read-valid _ (gradientAt (a .t .now) (a .j)) (only (c .before .support2 .result)) (c .only-of2 .ensures)
-      (gradient-valid _ (lines .1 .valid)),
+          (gradient-valid _ (lines .1 .valid)),
     )
 
 returns : tie.Need-returns

@@ -7,11 +7,11 @@ use Rattle.range.proofs.StarFits.{halving, high-made}
 use Rattle.range.proofs.star.high_end.Statement.{statement}
 use Rattle.range.proofs.star.high_end.Tie as tie
 
-add-ceil-div : tie.Need-add-ceil-div
-add-ceil-div c = search (needs, halving)
+add-half-up : tie.Need-add-half-up
+add-half-up c = search (needs, halving)
 
-add-ceil-div-2 : tie.Need-add-ceil-div-2
-add-ceil-div-2 c = search (needs, halving, c .star-root .ensures .1)
+add-half-up-2 : tie.Need-add-half-up-2
+add-half-up-2 c = search (needs, halving, c .star-root .ensures .1)
 
 returns : tie.Need-returns
 returns c =
@@ -20,7 +20,7 @@ returns c =
     let pre = start .pre in
     let made = high-made (start .args .a) (start .args .b) (start .args .m) (pre .0) (pre .1 .0) (pre .1 .1) (root .result) (root .ensures .1)
     (root .ensures .0) in
-    read (c .ceil-div .result) (search needs) (c .ceil-div .ensures ∙ ap (λ z. ceilDiv z 2) made)
+    read (c .half-up .result) (search needs) (c .half-up .ensures ∙ ap (λ z. ceilDiv z 2) made)
 
 pub high-end-spec : {M : Type 1} → statement M
-high-end-spec = tie.close (tie.spec add-ceil-div (λ c κs. search needs) add-ceil-div-2 (λ c κs. search needs) returns)
+high-end-spec = tie.close (tie.spec add-half-up (λ c κs. search needs) add-half-up-2 (λ c κs. search needs) returns)
