@@ -5,12 +5,12 @@ ghost use mathlib.Core.Bool.{true};
 ghost use Prim.Native.Nat.{_≤_, _<_};
 ghost use lib.IntN.{natAbs};
 ghost use Rattle.range.specs.Limit.{isValid};
-ghost use Rattle.range.specs.Arithmetic.{inverseOf};
+ghost use Rattle.range.specs.Arithmetic.{productOf, inverseOf};
 ghost use Rattle.rules.specs.Formula.{sticky};
 ghost use Rattle.rules.specs.Run.{eachValid};
 ghost use Rattle.rules.specs.Table.{factorRow, addRow, addcRow, mulcRow, productSpectrum, starSpectrum, mulRow, powRow, invRow};
 ghost use Rattle.bounds.specs.Terms.{Told, Fine};
-ghost use Rattle.bounds.specs.Table.{valueAt, gradientAt, lineAt, Blank, Refers, lineWith, SettledLine, Worked};
+ghost use Rattle.bounds.specs.Table.{valueAt, spectrumAt, gradientAt, lineAt, Blank, Refers, lineWith, SettledLine, Worked};
 use super::slopes;
 use super::slopes::Slopes;
 use super::spectrum;
@@ -122,6 +122,17 @@ pub(crate) fn mulc(t: &mut [i32; 1280], s: &mut [u8; 128], i: usize, c: i64, k: 
     settle(t, s, k, v, e, p, b, g)
 }
 
+// V_j·E_i.
+fn weighted_spectrum(t: &[i32; 1280], i: usize, j: usize) -> Range
+    requires { ⌜ i < 64 ⌝ }
+    requires { ⌜ j < 64 ⌝ }
+    requires { ⌜ isValid (spectrumAt (now t) i) ≡ true ⌝ }
+    requires { ⌜ isValid (valueAt (now t) j) ≡ true ⌝ }
+    ensures { λ r. ⌜ r ≡ productOf (valueAt (now (t .entry)) j) (spectrumAt (now (t .entry)) i) ⌝ }
+{
+    valid::product(table::value(t, j), table::spectrum(t, i))
+}
+
 // 01's E of a product: Cross, plus the join of the two lines' own bends.
 fn joined_spectrum(t: &[i32; 1280], s: &[u8; 128], i: usize, j: usize) -> Range
     requires { ⌜ i < 64 ⌝ }
@@ -134,9 +145,7 @@ fn joined_spectrum(t: &[i32; 1280], s: &[u8; 128], i: usize, j: usize) -> Range
     let p = table::support(s, i) | table::support(s, j);
     let b = table::nonlinear(s, i);
     let c = table::nonlinear(s, j);
-    let e = valid::product(table::value(t, j), table::spectrum(t, i));
-    let f = valid::product(table::value(t, i), table::spectrum(t, j));
-    let own = spectrum::of_sum(e, b, f, c);
+    let own = spectrum::of_sum(weighted_spectrum(t, i, j), b, weighted_spectrum(t, j, i), c);
     valid::told_sum(
         spectrum::of_cross(t, p, i, j),
         spectrum::extended(own, b | c, p),
@@ -152,8 +161,8 @@ fn star_spectrum(t: &[i32; 1280], s: &[u8; 128], i: usize, j: usize) -> Range
     ensures { λ r. ⌜ r ≡ sticky
         (starSpectrum (lineAt (now (t .entry)) (now (s .entry)) i) (lineAt (now (t .entry)) (now (s .entry)) j)) ⌝ }
 {
-    let a = valid::product(table::value(t, j), table::spectrum(t, i));
-    let b = valid::product(table::value(t, i), table::spectrum(t, j));
+    let a = weighted_spectrum(t, i, j);
+    let b = weighted_spectrum(t, j, i);
     let g = spectrum::only_of(t, table::support(s, i), i);
     let h = spectrum::only_of(t, table::support(s, j), j);
     a.star(b, valid::product(g, h))
