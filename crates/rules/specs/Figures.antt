@@ -180,6 +180,13 @@ figures =
       ranges = 10000 to 10000 ∷ [];
       gives = limits (10000 to 10000) (slopes (30000 to 30000) zeroRange) 1 1 (60000 to 60000) (60000 to 60000);
     }
+    -- and so do two lines that are not bent: `mulc→1→50`, `mulc→2→150`, `mul→3→4` on 0..0 twice (by the new rule −1..1)
+    ∷ record {
+      factors = 2;
+      operations = MulC 1 (pos 50) ∷ MulC 2 (pos 150) ∷ Mul 3 4 ∷ [];
+      ranges = 0 to 0 ∷ 0 to 0 ∷ [];
+      gives = let e = fromTo (− 2) (pos 2) in limits (0 to 0) (slopes (0 to 0) (0 to 0)) 3 3 e e;
+    }
     -- "when an end of A, B or C passes 1,000,000,000 units": C at that, and one unit more; A at that, and two units more; B two units more
     ∷ record {
       factors = 2;
