@@ -83,6 +83,7 @@ RULES = [
     "exact: first derivative 0 outside the depends-on set", "exact: second derivatives 0 outside the bent set",
     "exact: v'Hv inside the bend", "exact: v'Hv inside the full bend",
     "exact: same premium elsewhere", "exact: same first derivatives elsewhere",
+    "exact: v'Hv in the direction of an eigenvector",
 ]
 
 

@@ -1,5 +1,6 @@
 """01, "The exact side": values and derivatives as fractions, and what an accepted result promises of them."""
 from fractions import Fraction
+from math import sqrt
 from typing import NamedTuple
 
 from .outcome import unnoted
@@ -124,6 +125,25 @@ def some_vectors(rng, n):
     return [alone, [1] * n, [rng.choice((-1, 1)) for _ in range(n)], [rng.randint(-9, 9) for _ in range(n)]]
 
 
+def eigenvectors(second, bent):
+    """Of a bent set of two factors, the directions in which v'Hv comes nearest to the ends of the bend, in whole numbers. Those next to the axes are
+    left out, where one factor alone comes as near."""
+    if len(bent) != 2:
+        return []
+    a, b = sorted(bent)
+    apart, beside = second[b][b] - second[a][a], 2 * second[a][b]
+    if abs(apart) >= 1000 * abs(beside):
+        return []
+    half = float(apart / beside)
+    found = []
+    for root in (-sqrt(half ** 2 + 1), sqrt(half ** 2 + 1)):
+        slope = Fraction(half + root).limit_denominator(10_000)
+        v = [0] * len(second)
+        v[a], v[b] = slope.denominator, slope.numerator
+        found.append(v)
+    return found
+
+
 def broken_promises(rng, sheet, ranges, result, note=unnoted):
     """What an accepted result says of one random point inside the ranges, as a list of what does not hold."""
     n = sheet.factors
@@ -146,7 +166,10 @@ def broken_promises(rng, sheet, ranges, result, note=unnoted):
             hold("first derivative 0 outside the depends-on set", premium.first[a] == 0)
         if a not in result.bent:
             hold("second derivatives 0 outside the bent set", not any(premium.second[a]))
-    for v in some_vectors(rng, n):
+    extreme = eigenvectors(premium.second, result.bent)
+    if extreme:
+        note("exact: v'Hv in the direction of an eigenvector")
+    for v in some_vectors(rng, n) + extreme:
         form = quadratic(premium.second, v)
         hold("v'Hv inside the bend", inside_times(result.bend, sum(v[a] ** 2 for a in result.bent), form))
         hold("v'Hv inside the full bend", inside_times(result.full, sum(x ** 2 for x in v), form))
