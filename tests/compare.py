@@ -4,8 +4,8 @@
 tests/compare.py --binary PATH [--tidy PATH [--tidy-into PATH]] [--fleet PATH [--rate-many PATH]] [--seed N] [--count N] [--dead-lines N]
         [--fleets N] [--jobs N]
     `rate`: the figures of the papers, the examples, inputs that two refusals fit, and random ones: every printed byte; the bends beside those
-    with each square rounded (02, request 2), which must be no narrower; for a share of the accepted random ones also the exact premium and its
-    derivatives, as fractions, at a point inside the ranges
+    with each square rounded (02, request 2) and those without special cases of a product (request 4), which must be no narrower; for a share of the
+    accepted random ones also the exact premium and its derivatives, as fractions, at a point inside the ranges
     `tidy`: the sheets of all these, and sheets with dead lines put in (dead_lines.py): every printed byte, and `rate` of the tidied sheet
     `tidy_into`: a share of them, with buffers that are too short, just long enough and longer: the outcome and every byte of the buffer
     `fleet`: lists of boats (fleets.py), the figures of the request and the example: every printed byte
@@ -30,7 +30,7 @@ from pathlib import Path
 
 import dead_lines
 import fleets
-from errors import ERRORS, STEPS, SquaresRoundedEachInCross, SquaresRoundedEachInSq, uncounted
+from errors import ERRORS, SPECIAL_STEPS, STEPS, CasesNotApplied, SquaresRoundedEachInCross, SquaresRoundedEachInSq, uncounted
 from figures import FIGURES, REPORTED, TIDIED
 from fleet_page import FleetComparison
 from generate import box_text, case
@@ -50,6 +50,8 @@ EXAMPLES = Path(__file__).resolve().parent.parent / "examples"
 EXACT_SHARE = 0.5
 ORDER_ROUNDS = 3  # inputs for each order
 FLEET_ROUNDS = 3  # inputs for each way in which a list of boats is refused, and for each of its edges
+
+SPECIAL_CASES = ["mul, case 4", "mul, case 7", "mul, case 10"]
 
 # Refusal 10 is not among them: the program loads a sheet before it rates.
 RULES = [
@@ -75,15 +77,18 @@ RULES = [
     "join by hull", "join by sum, sets overlap", "join by sum, a set is empty",
     "Sq, one factor", "Sq, more factors",
     "Cross, one factor", "Cross, more factors, root above 0", "Cross, more factors, root 0",
+    *SPECIAL_CASES, "special bend with 0", "special bend above 0", "special bend below 0",
+    *(f"{step} {where}" for step in SPECIAL_STEPS for where in ("at 10^9 itself", "a unit past 10^9")),
     "one rounding differs in Sq", "one rounding differs in Cross",
     "accepted where rounding each square in Sq gives 12", "accepted where rounding each square in Cross gives 12",
+    "special cases differ", "accepted where without special cases there is 12", "refused by A, B or C, and accepted without special cases",
     "printed: 1 factor", "printed: 8 factors", "printed: 64 codelist lines", "printed: empty bent set",
     "printed: full bend is not the bend",
     "exact: value inside its range", "exact: first derivatives inside the slopes",
     "exact: first derivative 0 outside the depends-on set", "exact: second derivatives 0 outside the bent set",
     "exact: v'Hv inside the bend", "exact: v'Hv inside the full bend",
     "exact: same premium elsewhere", "exact: same first derivatives elsewhere",
-    "exact: v'Hv in the direction of an eigenvector",
+    *(f"exact: a sheet with {case}" for case in SPECIAL_CASES), "exact: v'Hv in the direction of an eigenvector",
 ]
 
 
@@ -95,18 +100,21 @@ class Comparison(Tally):
         super().__init__()
         self.binary = binary
         self.passing = []
+        self.cases = set()
         self.given_up = 0
 
     def note(self, rule):
-        """A rule was met; the step that gave a refusal 12 is kept to see whether it alone did."""
+        """A rule was met; the step that gave a refusal 12 is kept to see whether it alone did, and special cases to see what they change."""
         if rule.startswith("12 by ") and not rule.endswith(" alone"):
             self.passing = [rule.removeprefix("12 by ")]
-        else:
-            super().note(rule)
+            return
+        if rule in SPECIAL_CASES:
+            self.cases.add(rule)
+        super().note(rule)
 
     def compare(self, name, text, expected=None, rng=None):
         """One input: the program's print against the reference's, and the reference's result, which is handed back, against the exact side."""
-        self.passing = []
+        self.passing, self.cases = [], set()
         outcome = run(text, note=self.note)
         ours = printed(outcome.answer)
         if expected is not None and ours != expected:
@@ -121,7 +129,7 @@ class Comparison(Tally):
             complaint += self.note_orders(text, outcome.answer)
         if comes_to_lines(outcome):
             self.try_errors(text, ours)
-            complaint += self.rounding_complaint(text, outcome)
+            complaint += self.rounding_complaint(text, outcome) + self.special_complaint(text, outcome)
         self.judge(name, text, complaint)
         return outcome
 
@@ -132,6 +140,8 @@ class Comparison(Tally):
         except TooLarge:
             self.given_up += 1
             return ""
+        for case in self.cases:
+            self.note(f"exact: a sheet with {case}")
         return "".join(f"--- does not hold of the reference's result: {what}\n" for what in broken)
 
     def note_orders(self, text, refusal):
@@ -166,6 +176,22 @@ class Comparison(Tally):
             elif not narrower(outcome.answer, each):
                 complaint += f"--- not narrower than with each square rounded in {where}\n{printed(each).decode()}"
         return complaint
+
+    def special_complaint(self, text, outcome):
+        """02, request 4: whether the rule without special cases would give something else. Then it must be wider, or refused with 12, unless A, B or
+        C passes 10^9."""
+        without = run(text, CasesNotApplied).answer if self.cases else outcome.answer
+        if without == outcome.answer:
+            return ""
+        self.note("special cases differ")
+        if isinstance(outcome.answer, Result) and isinstance(without, Refusal) and without.number == 12:
+            self.note("accepted where without special cases there is 12")
+        elif set(self.passing) & set(SPECIAL_STEPS):
+            if isinstance(without, Result):
+                self.note("refused by A, B or C, and accepted without special cases")
+        elif not narrower(outcome.answer, without):
+            return f"--- not narrower than without special cases\n{printed(without).decode()}"
+        return ""
 
     def try_errors(self, text, ours):
         """Which wrong rules this input tells from the right ones."""

@@ -1,11 +1,12 @@
 """Wrong rules, each in the place of a right one: the comparison has to tell them all from the right ones.
 
 Of rating, the first five are the errors that 01 names at its end, then come the results "From the buyer" wants turned down, then other
-readings of sentences that decide a result, and near misses of 02's request 2, the sum of squares. Those of tidying (request 1) are near misses
-of what is used, what is kept and how it is renumbered; those of the fleet page (request 3), of what a boat is, of what is counted, summed and
-compared, and of which lists are taken.
+readings of sentences that decide a result, near misses of 02's request 2, the sum of squares, and the rule before its request 4. Those of
+tidying (request 1) are near misses of what is used, what is kept and how it is renumbered; those of the fleet page (request 3), of what a boat
+is, of what is counted, summed and compared, and of which lists are taken.
 """
 import re
+from math import isqrt
 
 from reference.fleet import MOST_INPUT, RECORD, Fleet, rated
 from reference.outcome import Refusal, Refused, refuse
@@ -46,10 +47,9 @@ class BendForFull(Rules):
 
 
 class RootDown(Rules):
-    """Rounding the root down."""
-    def root_up(self, x):
-        root = super().root_up(x)
-        return root if root * root == x else root - 1
+    """Rounding β down."""
+    def beta(self, g, h, over):
+        return isqrt(self.squares(g, over) * self.squares(h, over))
 
 
 class WholeLimit(Rules):
@@ -205,6 +205,12 @@ class ZerothPowerOne(Rules):
         return Range(1, 1) if e == 0 else super().power(a, e, step)
 
 
+class CasesNotApplied(Rules):
+    """No product taken for a special case (01's rule before request 4)."""
+    def special_case(self, x, y):
+        return None
+
+
 ERRORS = [
     TowardZero, SquareByEnds, HullOfOverlap, BendForFull, RootDown,
     WholeLimit, FirstOperationCopied, EarlyRefusal, InventedPlace,
@@ -212,13 +218,18 @@ ERRORS = [
     SquaresRoundedEach, SquaresRoundedEachInSq, SquaresRoundedEachInCross, SquaresOfHighEnds, SquaresRoundedDown, RestsForgotten,
     RootOfExactSums,
     NoLift, ZeroInHull, BentSetKept, ZerothPowerOne,
+    CasesNotApplied,
 ]
 
+# The ends of A, B and C, which are refused beyond 1,000,000,000 units (02, request 4).
+SPECIAL_STEPS = ["mul.A.low", "mul.A.high", "mul.B.low", "mul.B.high", "mul.C.low", "mul.C.high"]
+
 # The steps that can be the only one to pass the limit. The others never are: powers of V pass with V^m or at its start, and what is
-# then doubled or taken m times passes with its multiple; the root and the sum of the products pass with their sum.
+# then doubled or taken m times passes with its multiple; the root and the sum of the products pass with their sum; the bend of a
+# special case is at most M beyond A or B, and so within the limit.
 STEPS = [
     "add.V", "add.G", "add.join", "addc.V", "mulc.V", "mulc.G", "mulc.E",
-    "mul.V", "mul.ViGj", "mul.VjGi", "mul.G", "mul.VjEi", "mul.ViEj", "mul.join", "mul.Cross.one", "mul.Cross.sum", "mul.E",
+    "mul.V", "mul.ViGj", "mul.VjGi", "mul.G", "mul.VjEi", "mul.ViEj", "mul.join", "mul.Cross.one", "mul.Cross.sum", "mul.E", *SPECIAL_STEPS,
     "pow.V", "pow.G", "pow.(m-1)Sq", "pow.VE", "pow.inner", "pow.E",
     "inv.V^2", "inv.G", "inv.Sq.one", "inv.Sq.sum", "inv.2VSq", "inv.inner", "inv.E",
 ]
@@ -461,6 +472,9 @@ class CutOff(Rules):
 
     def power(self, a, e, step):
         return self.kept(super().power(a, e, step), step)
+
+    def within(self, r, step):
+        """A, B and C are not tested either."""
 
 
 class RefusedSummed(Fleet):

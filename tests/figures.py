@@ -32,7 +32,7 @@ STARRED = [
     ("join by sum", "factors 2;mul 1 2;pow 1 2;add 3 4;box;10000 20000;30000 40000;",
      "value 40000 120000;slope 1 50000 80000;slope 2 10000 20000;depends 1 2;bent 1 2;bend -10000 30000;full -10000 30000;"),
     ("product of a square", "factors 2;pow 1 2;mul 3 2;box;10000 10000;10000 10000;",
-     "value 10000 10000;slope 1 20000 20000;slope 2 10000 10000;depends 1 2;bent 1 2;bend -20000 40000;full -20000 40000;"),
+     "value 10000 10000;slope 1 20000 20000;slope 2 10000 10000;depends 1 2;bent 1 2;bend -12361 32361;full -12361 32361;"),
     ("inverse of a range with 0", "factors 1;inv 1;box;0 10000;", "refused 11 2;"),
     ("inverse of one unit", "factors 1;inv 1;box;1 1;", "refused 12 2;"),
 ]
@@ -146,6 +146,51 @@ SQUARES = [
 ]
 
 
+# 02, request 4: products of two lines of one factor each, at least one of them bent. "product of a square" above is case 4.
+SPECIAL = [
+    ("case 7, the references of case 4 exchanged", "factors 2;pow 1 2;mul 2 3;box;10000 10000;10000 10000;",
+     "value 10000 10000;slope 1 20000 20000;slope 2 10000 10000;depends 1 2;bent 1 2;bend -12361 32361;full -12361 32361;"),
+    ("case 7", "factors 2;pow 2 2;mul 1 3;box;10000 10000;10000 10000;",
+     "value 10000 10000;slope 1 10000 10000;slope 2 20000 20000;depends 1 2;bent 1 2;bend -12361 32361;full -12361 32361;"),
+    # by Cross: -60000 to 160000
+    ("case 10", "factors 2;pow 1 2;pow 2 2;mul 3 4;box;10000 20000;10000 10000;",
+     "value 10000 40000;slope 1 20000 40000;slope 2 20000 80000;depends 1 2;bent 1 2;bend -60000 135441;full -60000 135441;"),
+    # A 40, B 20, C 4, and their negatives: the halves are 192296.5 and 407703.5
+    ("a bend above 0", "factors 2;pow 1 2;addc 3 90000;pow 2 2;addc 5 190000;mul 4 6;box;10000 10000;10000 10000;",
+     "value 2000000 2000000;slope 1 400000 400000;slope 2 200000 200000;depends 1 2;bent 1 2;bend 192296 407704;full 192296 407704;"),
+    ("a bend below 0", "factors 2;pow 1 2;mulc 3 -10000;addc 4 -90000;pow 2 2;addc 6 190000;mul 5 7;box;10000 10000;10000 10000;",
+     "value -2000000 -2000000;slope 1 -400000 -400000;slope 2 -200000 -200000;depends 1 2;bent 1 2;bend -407704 -192296;full -407704 -192296;"),
+    ("a third factor", "factors 3;pow 3 2;mul 4 1;box;10000 10000;0 0;10000 10000;",
+     "value 10000 10000;slope 1 10000 10000;slope 2 0 0;slope 3 20000 20000;depends 1 3;bent 1 3;bend -12361 32361;full -12361 32361;"),
+    ("A at 1,000,000,000", "factors 2;pow 1 2;mul 3 2;box;0 0;500000000 500000000;",
+     "value 0 0;slope 1 0 0;slope 2 0 0;depends 1 2;bent 1 2;bend 0 1000000000;full 0 1000000000;"),
+    ("A at -1,000,000,000", "factors 2;pow 1 2;mul 3 2;box;0 0;-500000000 -500000000;",
+     "value 0 0;slope 1 0 0;slope 2 0 0;depends 1 2;bent 1 2;bend -1000000000 0;full -1000000000 0;"),
+    ("B at 1,000,000,000", "factors 2;pow 1 2;mul 2 3;box;0 0;500000000 500000000;",
+     "value 0 0;slope 1 0 0;slope 2 0 0;depends 1 2;bent 1 2;bend 0 1000000000;full 0 1000000000;"),
+    ("B at -1,000,000,000", "factors 2;pow 1 2;mul 2 3;box;0 0;-500000000 -500000000;",
+     "value 0 0;slope 1 0 0;slope 2 0 0;depends 1 2;bent 1 2;bend -1000000000 0;full -1000000000 0;"),
+    ("C at 1,000,000,000", "factors 2;pow 1 2;mulc 2 1000000000;mul 3 4;box;5000 5000;0 0;",
+     "value 0 0;slope 1 0 0;slope 2 250000000 250000000;depends 1 2;bent 1 2;bend -1000000000 1000000000;full -1000000000 1000000000;"),
+    ("C at -1,000,000,000", "factors 2;pow 1 2;mulc 2 -1000000000;mul 3 4;box;5000 5000;0 0;",
+     "value 0 0;slope 1 0 0;slope 2 -250000000 -250000000;depends 1 2;bent 1 2;bend -1000000000 1000000000;full -1000000000 1000000000;"),
+    # 01's bend would be refused: Cross is -1000199942 to 1000199942. R' is 2236067978, and no end
+    ("A and C at 1,000,000,000",
+     "factors 2;pow 1 2;mulc 3 500000000;mulc 1 5001;add 4 5;mulc 2 1999600079;addc 7 10000;mul 6 8;box;0 0;0 0;",
+     "value 0 0;slope 1 5001 5001;slope 2 0 0;depends 1 2;bent 1 2;bend -618033989 1618033989;full -618033989 1618033989;"),
+    ("A, B and C at 1,000,000,000, and the bend at the limit",
+     "factors 2;pow 1 2;mulc 3 500000000;add 1 4;addc 5 10000;pow 2 2;mulc 7 500000000;mulc 2 1000000000;add 8 9;addc 10 10000;mul 6 11;box;0 0;0 0;",
+     "value 10000 10000;slope 1 10000 10000;slope 2 1000000000 1000000000;depends 1 2;bent 1 2;bend 0 2000000000;full 0 2000000000;"),
+    ("two lines of one factor are no special case", "factors 2;pow 1 2;mul 3 1;box;10000 10000;10000 10000;",
+     "value 10000 10000;slope 1 30000 30000;slope 2 0 0;depends 1;bent 1;bend 60000 60000;full 0 60000;"),
+    # by the special rule: -1 to 1
+    ("two unbent lines are none either", "factors 2;mulc 1 50;mulc 2 150;mul 3 4;box;0 0;0 0;",
+     "value 0 0;slope 1 0 0;slope 2 0 0;depends 1 2;bent 1 2;bend -2 2;full -2 2;"),
+    ("past 1,000,000,000 in a product of another sort", "factors 1;pow 1 2;addc 1 500000001;mul 2 3;box;0 0;",
+     "value 0 0;slope 1 0 0;depends 1;bent 1;bend 1000000002 1000000002;full 1000000002 1000000002;"),
+]
+
+
 def operand(first, v, g, e):
     """Lines from `first` on for v + g x + (e/2) x^2, where line 2 is x^2 and x is 0: its V, G and E are v, g and e."""
     numbers = (round(e * 5000), round(g * 10000), first, first + 1, first + 2, round(v * 10000))
@@ -178,6 +223,13 @@ ALONE = [
     ("mul.join", *two("mul 6 10", (1, -1, 1), (200000, 10, 20))),
     ("mul.Cross.one", *two("mul 6 10", (0, 400, -100), (400, 300, 0))),
     ("mul.E", *two("mul 6 10", (0, 300, 300), (100, 300, 0))),
+    # a special case, with one end a unit past 1,000,000,000
+    ("mul.A.low", "factors 2;pow 1 2;mulc 3 5000;mul 4 2;box;0 0;-1000000001 0;", "refused 12 5;"),
+    ("mul.A.high", "factors 2;pow 1 2;mulc 3 5000;mul 4 2;box;0 0;0 1000000001;", "refused 12 5;"),
+    ("mul.B.low", "factors 2;pow 1 2;mulc 3 5000;mul 2 4;box;0 0;-1000000001 0;", "refused 12 5;"),
+    ("mul.B.high", "factors 2;pow 1 2;mulc 3 5000;mul 2 4;box;0 0;0 1000000001;", "refused 12 5;"),
+    ("mul.C.low", "factors 2;pow 1 2;mulc 2 1000000001;mul 3 4;box;-5000 0;0 0;", "refused 12 5;"),
+    ("mul.C.high", "factors 2;pow 1 2;mulc 2 1000000001;mul 3 4;box;0 5000;0 0;", "refused 12 5;"),
     ("pow.V", *one("pow 6 2", (500, 0, 0))),
     ("pow.G", *one("pow 6 2", (400, 300, -100))),
     ("pow.(m-1)Sq", *one("pow 6 3", (0.1, 320, -100000))),
@@ -196,7 +248,7 @@ ALONE = [
     ("inv.Sq.sum", "factors 2;add 1 2;mulc 3 4000000;addc 4 100000000;inv 5;box;0 0;0 0;", "refused 12 6;"),
 ]
 
-FIGURES = [(name, text(given), text(expected)) for name, given, expected in STARRED + PRINTED + EDGES + READINGS + SQUARES + ALONE]
+FIGURES = [(name, text(given), text(expected)) for name, given, expected in STARRED + PRINTED + EDGES + READINGS + SQUARES + SPECIAL + ALONE]
 
 LONGEST = "factors 1;" + "".join(f"addc {k} -2000000000;" for k in range(1, 64))
 

@@ -3,7 +3,7 @@ from math import isqrt
 
 from reference.outcome import Refused
 from reference.ranges import LIMIT, UNIT, Range
-from reference.rating import Result, Rules
+from reference.rating import SPECIAL_LIMIT, Result, Rules
 from reference.sheet import MOST_LINES, REFERENCES, Operation, Sheet, sheet_text
 from reference.text import run
 
@@ -78,6 +78,11 @@ class Growing:
         self.unused -= set(numbers[:REFERENCES[name]])
         self.unused.add(len(self.lines))
         return True
+
+    def appended(self, name, *numbers):
+        """The number of a line that is known to be accepted."""
+        self.append(name, *numbers)
+        return len(self.lines)
 
     def append_any(self, rng, near):
         """`near` in 0..1 says how often the last few lines are taken; of the others the unused ones come first."""
@@ -326,6 +331,89 @@ def squares_at_limit(rng):
     return input_text(Sheet(factors, tuple(operations)), [Range(0, 0)] * factors)
 
 
+def of_one_factor(rng, growing, a):
+    """A line that depends on a factor alone, or the factor itself."""
+    line = a
+    for _ in range(rng.choice((0, 1, 1, 2, 3))):
+        name, *numbers = rng.choice((
+            ("pow", line, rng.choice((2, 2, 3, 4))), ("inv", line), ("mulc", line, constant(rng)), ("addc", line, constant(rng)),
+            ("mul", line, a), ("add", line, a)))
+        if growing.append(name, *numbers):
+            line = len(growing.lines)
+    return line
+
+
+def special(rng):
+    """A product of two lines of one factor each: mostly of two different ones, at times with a third one in it, or with a line behind it."""
+    factors = rng.choice((2, 2, 2, 3, 4, 8))
+    growing = Growing([some_range(rng) for _ in range(factors)])
+    a, b = rng.sample(range(1, factors + 1), 2)
+    i, j = of_one_factor(rng, growing, a), of_one_factor(rng, growing, b if rng.random() < 0.9 else a)
+    if rng.random() < 0.1 and growing.append("add", i, rng.randint(1, factors)):
+        i = len(growing.lines)
+    if not growing.append("mul", i, j):
+        return input_text(followed_by(growing.sheet(), Operation("mul", (i, j))), growing.ranges)
+    if rng.random() < 0.3:
+        growing.append_any(rng, 1.0)
+    return input_text(growing.sheet(), growing.ranges)
+
+
+def special_far(rng):
+    """A product of two such lines, both bent, with values so far from 0 that A and B outweigh C: mostly the bend has one sign."""
+    growing = Growing([Range(*sorted(rng.randint(-UNIT, UNIT) for _ in range(2))) for _ in range(2)])
+
+    def operand(a):
+        scaled = growing.appended("mulc", growing.appended("pow", a, rng.choice((2, 2, 4))), rng.choice((-1, 1)) * rng.randint(1, UNIT))
+        return growing.appended("addc", scaled, rng.choice((-1, 1)) * rng.randint(20 * UNIT, 300 * UNIT))
+    growing.append("mul", operand(1), operand(2))
+    return input_text(growing.sheet(), growing.ranges)
+
+
+def near_special_limit(rng):
+    """Two numbers whose product, divided and rounded away from 0, is 1,000,000,000 units or one more, of either sign. The first is even and small."""
+    first = 2 * rng.randint(UNIT // 4 + 1, UNIT // 2)
+    second = UNIT * (SPECIAL_LIMIT + rng.choice((0, 0, 1))) // first
+    return rng.choice((-1, 1)) * first, rng.choice((-1, 1)) * second
+
+
+def special_at_limit(rng):
+    """A product of v + g x + (e/2) x^2 and w + h y + (f/2) y^2 at 0, with one of A = w e, B = v f and C = g h, or more, next to their limit."""
+    factors = rng.choice((2, 2, 3))
+    growing = Growing([Range(0, 0)] * factors)
+    (v, g, e), (w, h, f) = ([rng.choice((0, rng.randint(-999, 999))) for _ in range(3)] for _ in range(2))
+    for name in rng.sample("ABC", rng.choice((1, 1, 1, 2, 3))):
+        if name == "A":
+            w, e = near_special_limit(rng)
+        elif name == "B":
+            v, f = near_special_limit(rng)
+        else:
+            g, h = near_special_limit(rng)
+
+    def operand(a, value, slope, bend):
+        line = growing.appended("mulc", a, slope)
+        if bend:
+            half = growing.appended("mulc", growing.appended("pow", a, 2), UNIT // 2)
+            line = growing.appended("add", line, growing.appended("mulc", half, bend))
+        return growing.appended("addc", line, value)
+    a, b = rng.sample(range(1, factors + 1), 2)
+    i, j = operand(a, v, g, e), operand(b, w, h, f)
+    return input_text(followed_by(growing.sheet(), Operation("mul", rng.choice(((i, j), (j, i))))), growing.ranges)
+
+
+def special_end_at_limit(rng):
+    """A product of (e/2) x^2 at 0 and y, or of x^2 and h y at 0, with one end of A, B or C next to their limit, and the other one nearer to 0."""
+    first, second = near_special_limit(rng)
+    bend = rng.random() < 0.7
+    end = first if bend else first // 2
+    wide, zero = Range(*sorted((end, rng.randint(-abs(end), abs(end))))), Range(0, 0)
+    if bend:
+        lines = [("pow", (1, 2)), ("mulc", (3, UNIT // 2)), ("mulc", (4, second)), ("mul", rng.choice(((5, 2), (2, 5))))]
+    else:
+        lines = [("pow", (1, 2)), ("mulc", (2, second)), ("mul", rng.choice(((3, 4), (4, 3))))]
+    sheet = Sheet(2, tuple(Operation(*line) for line in lines))
+    return input_text(sheet, [zero, wide] if bend else [wide, zero])
+
+
 def misplaced(rng):
     """One field of an accepted input replaced by one that is wrong, or nearly so."""
     growing = small(rng)
@@ -433,7 +521,7 @@ def long(rng):
 
 KINDS = [
     (grown, 26), (blind, 7), (sums, 12), (overreaching, 8), (scaled, 7), (brink, 6), (prescribed_brink, 12), (squares_at_limit, 2),
-    (misplaced, 9), (damaged, 6), (boxes, 6), (long, 2),
+    (special, 7), (special_far, 1), (special_at_limit, 2), (special_end_at_limit, 2), (misplaced, 9), (damaged, 6), (boxes, 6), (long, 2),
 ]
 
 

@@ -1,8 +1,10 @@
-"""01, "Sets and bends" and refusals 8 to 12, with request 2 of 02. Factors are counted from 0 here, and from 1 in refusals and in print."""
+"""01, "Sets and bends" and refusals 8 to 12, with requests 2 and 4 of 02. Factors are counted from 0 here, and from 1 in refusals and in print."""
 from typing import NamedTuple
 
 from .outcome import Refusal, Refused, refuse, unnoted
 from .ranges import LIMIT, ONE, UNIT, ZERO, Arithmetic, PastLimit, Range
+
+SPECIAL_LIMIT = 1_000_000_000  # of A, B and C (02, request 4)
 
 
 class Line(NamedTuple):
@@ -81,6 +83,65 @@ class Rules(Arithmetic):
         products = self.kept(self.products(g, h, over), "mul.Cross.products")
         return self.sum(products, around, "mul.Cross.sum")
 
+    # ---- special cases of `mul` (02, request 4)
+
+    def special_case(self, x, y):
+        """The case of 000's Table 6 that a product is, 4, 7 or 10, or None: "lines whose depends-on sets are one factor each, different, at
+        least one bent"."""
+        if len(x.depends) != 1 or len(y.depends) != 1 or x.depends == y.depends:
+            return None
+        return {(True, False): 4, (False, True): 7, (True, True): 10}.get((bool(x.bent), bool(y.bent)))
+
+    def special_bend(self, x, y):
+        products = self.special_products(x, y)
+        for name, r in zip("ABC", products):
+            self.within(r, f"mul.{name}")
+        for name, r in zip("ABC", products):
+            if r.low == -SPECIAL_LIMIT:
+                self.note(f"mul.{name}.low at 10^9 itself")
+            if r.high == SPECIAL_LIMIT:
+                self.note(f"mul.{name}.high at 10^9 itself")
+        bend = self.eigenvalues(*products)
+        self.note("special bend above 0" if bend.low > 0 else "special bend below 0" if bend.high < 0 else "special bend with 0")
+        return self.kept(bend, "mul.special")
+
+    def special_products(self, x, y):
+        """A, B and C."""
+        return self.product_ends(y.value, x.bend), self.product_ends(x.value, y.bend), self.product_ends(*self.own_slopes(x, y))
+
+    def within(self, r, step):
+        """"Refusal 12 is also given [...] when an end of A, B or C passes 1,000,000,000 units, either sign." The two ends are steps of their own,
+        so that a test can leave out one of them."""
+        for end, beyond in ((step + ".low", -r.low - SPECIAL_LIMIT), (step + ".high", r.high - SPECIAL_LIMIT)):
+            if beyond > 0 and end != self.uncounted:
+                if beyond == 1:
+                    self.note(f"{end} a unit past 10^9")
+                raise PastLimit(end)
+
+    def own_slopes(self, x, y):
+        """"the two slopes": each line's at its own factor, the only one that is not zero."""
+        (i,), (j,) = x.depends, y.depends
+        return x.slopes[i], y.slopes[j]
+
+    def eigenvalues(self, a, b, c):
+        """000's (4.21): of all symmetric two-by-two matrices with A and B on the diagonal and C beside it. R and R' are no ends."""
+        most = self.largest_magnitude(c)
+        low = self.half_down(a.low + b.low - self.special_root(a.low, b.low, most))
+        high = self.half_up(a.high + b.high + self.special_root(a.high, b.high, most))
+        return Range(low, high)
+
+    def largest_magnitude(self, r):
+        return max(abs(r.low), abs(r.high))
+
+    def special_root(self, a, b, most):
+        return self.root_up((a - b) ** 2 + 4 * most ** 2)
+
+    def half_down(self, x):
+        return self.down(x, 2)
+
+    def half_up(self, x):
+        return self.up(x, 2)
+
     # ---- the lines
 
     def factor(self, i, r):
@@ -111,11 +172,17 @@ class Rules(Arithmetic):
         slopes = tuple(
             self.sum(self.product(x.value, h, "mul.ViGj"), self.product(y.value, g, "mul.VjGi"), "mul.G")
             for g, h in zip(x.slopes, y.slopes))
+        case = self.special_case(x, y)
+        if case:
+            self.note(f"mul, case {case}")
+        return Line(value, slopes, both, both, self.special_bend(x, y) if case else self.general_bend(x, y))
+
+    def general_bend(self, x, y):
+        both = x.depends | y.depends
         x_bend = self.product(y.value, x.bend, "mul.VjEi")
         y_bend = self.product(x.value, y.bend, "mul.ViEj")
         lifted = self.lift(self.join(x_bend, x.bent, y_bend, y.bent, "mul.join"), x.bent | y.bent, both)
-        bend = self.sum(self.cross(x.slopes, y.slopes, both), lifted, "mul.E")
-        return Line(value, slopes, both, both, bend)
+        return self.sum(self.cross(x.slopes, y.slopes, both), lifted, "mul.E")
 
     def pow(self, x, m):
         value = self.power(x.value, m, "pow.V")
