@@ -1,9 +1,9 @@
 """Wrong rules, each in the place of a right one: the comparison has to tell them all from the right ones.
 
 Of rating, the first five are the errors that 01 names at its end, then come the results "From the buyer" wants turned down, then other
-readings of sentences that decide a result, near misses of 02's request 2, the sum of squares, and the rule before its request 4. Those of
-tidying (request 1) are near misses of what is used, what is kept and how it is renumbered; those of the fleet page (request 3), of what a boat
-is, of what is counted, summed and compared, and of which lists are taken.
+readings of sentences that decide a result, near misses of 02's request 2, the sum of squares, and of its request 4: of which products are
+special cases, of their bends, and of what is refused. Those of tidying (request 1) are near misses of what is used, what is kept and how it is
+renumbered; those of the fleet page (request 3), of what a boat is, of what is counted, summed and compared, and of which lists are taken.
 """
 import re
 from math import isqrt
@@ -11,7 +11,7 @@ from math import isqrt
 from reference.fleet import MOST_INPUT, RECORD, Fleet, rated
 from reference.outcome import Refusal, Refused, refuse
 from reference.ranges import LIMIT, UNIT, ZERO, PastLimit, Range
-from reference.rating import Result, Rules
+from reference.rating import SPECIAL_LIMIT, Result, Rules
 from reference.sheet import REFERENCES, Operation, text_lines
 from reference.text import MOST_INPUT as MOST_RATED
 from reference.tidy import Tidying, last_line, operation_at
@@ -205,10 +205,244 @@ class ZerothPowerOne(Rules):
         return Range(1, 1) if e == 0 else super().power(a, e, step)
 
 
+# ---- special cases of a product: which they are
+
 class CasesNotApplied(Rules):
     """No product taken for a special case (01's rule before request 4)."""
     def special_case(self, x, y):
         return None
+
+
+class CaseLeftOut(Rules):
+    case = None
+
+    def special_case(self, x, y):
+        found = super().special_case(x, y)
+        return None if found == self.case else found
+
+
+class CaseFourLeftOut(CaseLeftOut):
+    """Case 4 left out: of two lines of which the first one alone is bent."""
+    case = 4
+
+
+class CaseSevenLeftOut(CaseLeftOut):
+    """Case 7 left out: of two lines of which the second one alone is bent."""
+    case = 7
+
+
+class CaseTenLeftOut(CaseLeftOut):
+    """Case 10 left out: of two bent lines."""
+    case = 10
+
+
+class UnbentSpecial(Rules):
+    """Two unbent lines taken for a special case."""
+    def special_case(self, x, y):
+        return len(x.depends) == len(y.depends) == 1 and x.depends != y.depends
+
+
+class OneFactorSpecial(Rules):
+    """Two lines of one and the same factor taken for a special case."""
+    def special_case(self, x, y):
+        return len(x.depends) == len(y.depends) == 1 and x.bent | y.bent
+
+
+class BentSetsSpecial(Rules):
+    """Bent sets of one factor each taken for depends-on sets of one factor each."""
+    def special_case(self, x, y):
+        ours, theirs = (line.bent or line.depends for line in (x, y))
+        return len(ours) == len(theirs) == 1 and ours != theirs and x.bent | y.bent
+
+    def own_slopes(self, x, y):
+        (i,), (j,) = x.bent or x.depends, y.bent or y.depends
+        return x.slopes[i], y.slopes[j]
+
+
+class TwoFactorsSpecial(Rules):
+    """Two factors together taken for one each."""
+    def special_case(self, x, y):
+        return len(x.depends | y.depends) == 2 and x.bent | y.bent
+
+    def own_slopes(self, x, y):
+        i, j = min(x.depends - y.depends or x.depends), min(y.depends - x.depends or y.depends)
+        return x.slopes[i], y.slopes[j]
+
+
+class SheetsOfTwoFactors(Rules):
+    """Special cases looked for only where the sheet has two factors."""
+    def special_case(self, x, y):
+        return super().special_case(x, y) if self.factors == 2 else None
+
+
+# ---- special cases of a product: their bends
+
+class HalvesTowardZero(Rules):
+    """Both halves rounded toward zero."""
+    def half_down(self, x):
+        return x // 2 if x >= 0 else -(-x // 2)
+
+    half_up = half_down
+
+
+class HalvesAwayFromZero(Rules):
+    """Both halves rounded away from zero."""
+    def half_down(self, x):
+        return -(-x // 2) if x >= 0 else x // 2
+
+    half_up = half_down
+
+
+class LowHalfUp(Rules):
+    """The low end's half rounded up."""
+    def half_down(self, x):
+        return super().half_up(x)
+
+
+class HighHalfDown(Rules):
+    """The high end's half rounded down."""
+    def half_up(self, x):
+        return super().half_down(x)
+
+
+class HalvesApart(Rules):
+    """The halves of A + B and of the root rounded apart."""
+    def eigenvalues(self, a, b, c):
+        most = self.largest_magnitude(c)
+        low = self.half_down(a.low + b.low) - self.half_up(self.special_root(a.low, b.low, most))
+        high = self.half_up(a.high + b.high) + self.half_up(self.special_root(a.high, b.high, most))
+        return Range(low, high)
+
+
+class SpecialRootDown(Rules):
+    """R and R' rounded down."""
+    def special_root(self, a, b, most):
+        return isqrt((a - b) ** 2 + 4 * most ** 2)
+
+
+class TwiceForFourTimes(Rules):
+    """2·M² in the place of 4·M²."""
+    def special_root(self, a, b, most):
+        return self.root_up((a - b) ** 2 + 2 * most ** 2)
+
+
+class RootOfLowEnds(Rules):
+    """R taken for R', which is that of the high ends."""
+    def eigenvalues(self, a, b, c):
+        root = self.special_root(a.low, b.low, self.largest_magnitude(c))
+        return Range(self.half_down(a.low + b.low - root), self.half_up(a.high + b.high + root))
+
+
+class HullAndMagnitude(Rules):
+    """The hull of A and B, and M added on either side."""
+    def eigenvalues(self, a, b, c):
+        most = self.largest_magnitude(c)
+        return Range(min(a.low, b.low) - most, max(a.high, b.high) + most)
+
+
+class MagnitudeOfHighEnd(Rules):
+    """M of C's high end only."""
+    def largest_magnitude(self, r):
+        return abs(r.high)
+
+
+class SlopesRoundedInward(Rules):
+    """C rounded inward, so that M is rounded down."""
+    def special_products(self, x, y):
+        a, b, _ = super().special_products(x, y)
+        g, h = self.own_slopes(x, y)
+        ends = [end * other for end in g for other in h]
+        return a, b, Range(self.up(min(ends), UNIT), self.down(max(ends), UNIT))
+
+
+class SlopeOfOtherFactor(Rules):
+    """The second line's slope taken at the first one's factor."""
+    def own_slopes(self, x, y):
+        (i,) = x.depends
+        return x.slopes[i], y.slopes[i]
+
+
+class OwnValues(Rules):
+    """Each bend multiplied by its own line's value."""
+    def special_products(self, x, y):
+        c = super().special_products(x, y)[2]
+        return self.product_ends(x.value, x.bend), self.product_ends(y.value, y.bend), c
+
+
+class ExtendedTable(Rules):
+    """Case 4 by 000's extended table, which has V_j and E_i in the places of A and B."""
+    def special_products(self, x, y):
+        a, b, c = super().special_products(x, y)
+        return (a, b, c) if y.bent else (y.value, x.bend, c)
+
+
+# ---- special cases of a product: what is refused
+
+class BillionNotTested(Rules):
+    """A, B and C refused beyond 01's limit only."""
+    def within(self, r, step):
+        self.kept(r, step)
+
+
+class BillionRefused(Rules):
+    """An end of A, B or C at 1,000,000,000 units refused."""
+    def within(self, r, step):
+        if r.low == -SPECIAL_LIMIT or r.high == SPECIAL_LIMIT:
+            raise PastLimit(step)
+        super().within(r, step)
+
+
+class BillionAndOneTaken(Rules):
+    """An end of A, B or C one unit beyond 1,000,000,000 units taken for one at it."""
+    def within(self, r, step):
+        super().within(Range(r.low + 1, r.high - 1), step)
+
+
+class BillionOfEveryProduct(Rules):
+    """V_j·E_i and V_i·E_j of every product refused beyond 1,000,000,000 units."""
+    def mul(self, x, y):
+        self.within(self.product_ends(y.value, x.bend), "mul.A")
+        self.within(self.product_ends(x.value, y.bend), "mul.B")
+        return super().mul(x, y)
+
+
+# Cross alone would not pass the limit: it is hardly more than C, which is within half of it. Its sum with A or B can.
+class CrossCounted(Rules):
+    """Cross worked out all the same, and what 01's rule makes of it counted."""
+    def special_bend(self, x, y):
+        self.general_bend(x, y)
+        return super().special_bend(x, y)
+
+
+class CrossForSlopes(Rules):
+    """Cross, and not C, refused beyond 1,000,000,000 units."""
+    def special_bend(self, x, y):
+        self.within(self.cross(x.slopes, y.slopes, x.depends | y.depends), "mul.C")
+        return super().special_bend(x, y)
+
+
+class SpecialRootsCounted(Rules):
+    """R and R' taken for ends."""
+    def special_root(self, a, b, most):
+        root = super().special_root(a, b, most)
+        self.kept(Range(-root, root), "mul.root")
+        return root
+
+
+class SumWithinBillion(Rules):
+    """A + B refused beyond 1,000,000,000 units, as A and B are."""
+    def special_bend(self, x, y):
+        a, b, _ = self.special_products(x, y)
+        self.within(Range(a.low + b.low, a.high + b.high), "mul.A+B")
+        return super().special_bend(x, y)
+
+
+class BendWithinBillion(Rules):
+    """The bend itself refused beyond 1,000,000,000 units."""
+    def special_bend(self, x, y):
+        bend = super().special_bend(x, y)
+        self.within(bend, "mul.special")
+        return bend
 
 
 ERRORS = [
@@ -218,7 +452,12 @@ ERRORS = [
     SquaresRoundedEach, SquaresRoundedEachInSq, SquaresRoundedEachInCross, SquaresOfHighEnds, SquaresRoundedDown, RestsForgotten,
     RootOfExactSums,
     NoLift, ZeroInHull, BentSetKept, ZerothPowerOne,
-    CasesNotApplied,
+    CasesNotApplied, CaseFourLeftOut, CaseSevenLeftOut, CaseTenLeftOut, UnbentSpecial, OneFactorSpecial, BentSetsSpecial, TwoFactorsSpecial,
+    SheetsOfTwoFactors,
+    HalvesTowardZero, HalvesAwayFromZero, LowHalfUp, HighHalfDown, HalvesApart, SpecialRootDown, TwiceForFourTimes, RootOfLowEnds, HullAndMagnitude,
+    MagnitudeOfHighEnd, SlopesRoundedInward, SlopeOfOtherFactor, OwnValues, ExtendedTable,
+    BillionNotTested, BillionRefused, BillionAndOneTaken, BillionOfEveryProduct, CrossCounted, CrossForSlopes, SpecialRootsCounted, SumWithinBillion,
+    BendWithinBillion,
 ]
 
 # The ends of A, B and C, which are refused beyond 1,000,000,000 units (02, request 4).
