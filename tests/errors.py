@@ -242,6 +242,12 @@ class UnbentSpecial(Rules):
         return len(x.depends) == len(y.depends) == 1 and x.depends != y.depends
 
 
+class ZeroBendUnbent(Rules):
+    """A line whose bend is 0 taken for unbent."""
+    def special_case(self, x, y):
+        return super().special_case(x, y) if (x.bend, y.bend) != (ZERO, ZERO) else None
+
+
 class OneFactorSpecial(Rules):
     """Two lines of one and the same factor taken for a special case."""
     def special_case(self, x, y):
@@ -452,8 +458,8 @@ ERRORS = [
     SquaresRoundedEach, SquaresRoundedEachInSq, SquaresRoundedEachInCross, SquaresOfHighEnds, SquaresRoundedDown, RestsForgotten,
     RootOfExactSums,
     NoLift, ZeroInHull, BentSetKept, ZerothPowerOne,
-    CasesNotApplied, CaseFourLeftOut, CaseSevenLeftOut, CaseTenLeftOut, UnbentSpecial, OneFactorSpecial, BentSetsSpecial, TwoFactorsSpecial,
-    SheetsOfTwoFactors,
+    CasesNotApplied, CaseFourLeftOut, CaseSevenLeftOut, CaseTenLeftOut, UnbentSpecial, ZeroBendUnbent, OneFactorSpecial, BentSetsSpecial,
+    TwoFactorsSpecial, SheetsOfTwoFactors,
     HalvesTowardZero, HalvesAwayFromZero, LowHalfUp, HighHalfDown, HalvesApart, SpecialRootDown, TwiceForFourTimes, RootOfLowEnds, HullAndMagnitude,
     MagnitudeOfHighEnd, SlopesRoundedInward, SlopeOfOtherFactor, OwnValues, ExtendedTable,
     BillionNotTested, BillionRefused, BillionAndOneTaken, BillionOfEveryProduct, CrossCounted, CrossForSlopes, SpecialRootsCounted, SumWithinBillion,

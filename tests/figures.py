@@ -186,6 +186,8 @@ SPECIAL = [
     # by the special rule: -1 to 1
     ("two unbent lines are none either", "factors 2;mulc 1 50;mulc 2 150;mul 3 4;box;0 0;0 0;",
      "value 0 0;slope 1 0 0;slope 2 0 0;depends 1 2;bent 1 2;bend -2 2;full -2 2;"),
+    ("a line is bent though its bend is 0", "factors 2;pow 1 3;mulc 1 50;add 3 4;mulc 2 150;mul 5 6;box;0 0;0 0;",
+     "value 0 0;slope 1 0 0;slope 2 0 0;depends 1 2;bent 1 2;bend -1 1;full -1 1;"),
     ("past 1,000,000,000 in a product of another sort", "factors 1;pow 1 2;addc 1 500000001;mul 2 3;box;0 0;",
      "value 0 0;slope 1 0 0;depends 1;bent 1;bend 1000000002 1000000002;full 1000000002 1000000002;"),
 ]
@@ -269,6 +271,7 @@ TIDYING = [
     ("used though it is multiplied by 0", "factors 1;pow 1 2;inv 1;mulc 2 0;box;1 2;", "factors 1;pow 1 2;mulc 2 0;"),
     ("a dead line refused with 11", "factors 1;inv 1;addc 1 0;box;0 10000;", "factors 1;addc 1 0;"),
     ("a used line refused with 11", "factors 1;pow 1 2;inv 1;addc 3 0;box;0 10000;", "factors 1;inv 1;addc 2 0;"),
+    ("a dead line refused past 1,000,000,000", "factors 2;pow 1 2;mul 3 2;addc 1 0;box;0 0;500000001 500000001;", "factors 2;addc 1 0;"),
     ("a number of two digits that comes to have one", "factors 7;" + "inv 1;" * 3 + "inv 2;inv 11;box;", "factors 7;inv 2;inv 8;"),
     ("62 dead lines", lines("factors 1;", 63, "inv 1;") + "addc 1 5;box;1 1;", "factors 1;addc 1 5;"),
     ("no dead line among 64", "factors 1;" + "".join(f"add {k} {k};" for k in range(1, 64)) + "box;0 0;",
@@ -306,6 +309,7 @@ FLEET = [
     ("accepted, and refused under 11, 12 and 9", "factors 1;inv 1;boats;" + boats(30000, 0, 1, 2000000001), page(4, 1, 1, 1, 1, 3333, 3334, 1)),
     ("none accepted", "factors 1;inv 1;boats;" + boats(-2000000001, 0, 0, -1, 1, -1), page(6, 0, 1, 2, 3, 0, 0, 0)),
     ("9 ahead of 11 and of 12", "factors 2;inv 1;boats;" + boats("0 2000000001", "1 -2000000001", "0 0", "1 0"), page(4, 0, 2, 1, 1, 0, 0, 0)),
+    ("12 past 1,000,000,000", "factors 2;pow 1 2;mul 3 2;boats;" + boats("0 500000000", "0 500000001"), page(2, 1, 0, 0, 1, 0, 0, 1)),
     ("values at the limit", KEPT + "boats;" + boats(2000000000, -2000000000, 2000000001, -2000000001), page(4, 2, 2, 0, 0, 0, 0, 1)),
     ("sums beyond the limit", KEPT + "boats;" + boats(*[2000000000] * 3), page(3, 3, 0, 0, 0, 6000000000, 6000000000, 1)),
     ("low and high sums apart", "factors 1;inv 1;boats;" + boats(30000, 70000, 30000), page(3, 3, 0, 0, 0, 8094, 8097, 1)),

@@ -394,6 +394,8 @@ def special_at_limit(rng):
         if bend:
             half = growing.appended("mulc", growing.appended("pow", a, 2), UNIT // 2)
             line = growing.appended("add", line, growing.appended("mulc", half, bend))
+        elif rng.random() < 0.6:  # bent all the same: of x^3 all is 0 there
+            line = growing.appended("add", line, growing.appended("pow", a, 3))
         return growing.appended("addc", line, value)
     a, b = rng.sample(range(1, factors + 1), 2)
     i, j = operand(a, v, g, e), operand(b, w, h, f)
