@@ -30,7 +30,7 @@ from pathlib import Path
 
 import dead_lines
 import fleets
-from errors import ERRORS, SPECIAL_STEPS, STEPS, CasesNotApplied, SquaresRoundedEachInCross, SquaresRoundedEachInSq, uncounted
+from errors import ERRORS, SPECIAL_ERRORS, SPECIAL_STEPS, STEPS, CasesNotApplied, SquaresRoundedEachInCross, SquaresRoundedEachInSq, uncounted
 from figures import FIGURES, REPORTED, TIDIED
 from fleet_page import FleetComparison
 from generate import box_text, case
@@ -94,7 +94,7 @@ RULES = [
 
 class Comparison(Tally):
     rules = RULES + ORDERS
-    errors = ERRORS
+    errors = ERRORS + SPECIAL_ERRORS
 
     def __init__(self, binary):
         super().__init__()
@@ -198,7 +198,7 @@ class Comparison(Tally):
         for step in self.passing:
             if printed(run(text, uncounted(step)).answer) != ours:
                 self.note(f"12 by {step} alone")
-        self.catch_errors(ours, lambda wrong: printed(run(text, wrong).answer))
+        self.catch_errors(ours, lambda wrong: printed(run(text, wrong).answer), self.errors if self.cases else ERRORS)
 
     def add(self, other):
         super().add(other)

@@ -458,12 +458,15 @@ ERRORS = [
     SquaresRoundedEach, SquaresRoundedEachInSq, SquaresRoundedEachInCross, SquaresOfHighEnds, SquaresRoundedDown, RestsForgotten,
     RootOfExactSums,
     NoLift, ZeroInHull, BentSetKept, ZerothPowerOne,
-    CasesNotApplied, CaseFourLeftOut, CaseSevenLeftOut, CaseTenLeftOut, UnbentSpecial, ZeroBendUnbent, OneFactorSpecial, BentSetsSpecial,
-    TwoFactorsSpecial, SheetsOfTwoFactors,
+    UnbentSpecial, OneFactorSpecial, BentSetsSpecial, TwoFactorsSpecial, BillionOfEveryProduct,
+]
+
+# Those that differ from the right rules in special cases of a product only.
+SPECIAL_ERRORS = [
+    CasesNotApplied, CaseFourLeftOut, CaseSevenLeftOut, CaseTenLeftOut, ZeroBendUnbent, SheetsOfTwoFactors,
     HalvesTowardZero, HalvesAwayFromZero, LowHalfUp, HighHalfDown, HalvesApart, SpecialRootDown, TwiceForFourTimes, RootOfLowEnds, HullAndMagnitude,
     MagnitudeOfHighEnd, SlopesRoundedInward, SlopeOfOtherFactor, OwnValues, ExtendedTable,
-    BillionNotTested, BillionRefused, BillionAndOneTaken, BillionOfEveryProduct, CrossCounted, CrossForSlopes, SpecialRootsCounted, SumWithinBillion,
-    BendWithinBillion,
+    BillionNotTested, BillionRefused, BillionAndOneTaken, CrossCounted, CrossForSlopes, SpecialRootsCounted, SumWithinBillion, BendWithinBillion,
 ]
 
 # The ends of A, B and C, which are refused beyond 1,000,000,000 units (02, request 4).

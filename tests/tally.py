@@ -51,9 +51,9 @@ class Tally:
         for _, shown in sorted(self.kept, key=itemgetter(0))[:DIFFERENCES_SHOWN]:
             print(shown)
 
-    def catch_errors(self, ours, of_wrong):
-        """Which wrong rules come to another print than the right ones."""
-        for wrong in self.errors:
+    def catch_errors(self, ours, of_wrong, errors=None):
+        """Which wrong rules, of all or of those that can differ, come to another print than the right ones."""
+        for wrong in self.errors if errors is None else errors:
             if self.caught[wrong] < TIMES_CAUGHT and of_wrong(wrong) != ours:
                 self.caught[wrong] += 1
 
