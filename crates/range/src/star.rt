@@ -16,7 +16,7 @@ use super::root::root_up;
 
 const HALF: i64 = LIMIT / 2;
 
-// R: the square root of (a − b)² + 4·m², rounded up. The two eigenvalues are so far apart.
+// R: the square root of (a − b)² + 4·m², rounded up. It is how far the two eigenvalues are apart.
 fn star_root(a: i64, b: i64, m: i64) -> i64
     requires { ⌜ natAbs a ≤ 1000000000 ⌝ }
     requires { ⌜ natAbs b ≤ 1000000000 ⌝ }

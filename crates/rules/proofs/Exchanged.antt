@@ -1,9 +1,9 @@
 -- The E of a product of two lines, by either rule, with the lines exchanged. Assumes nothing.
-use mathlib.Core.Path.{_≡_, refl, sym, ap, _∙_}
-use mathlib.Core.Bool.{Bool, true, false, not, _&&_, cond, and-false}
+use mathlib.Core.Path.{_≡_, ap, _∙_}
+use mathlib.Core.Bool.{cond}
 use mathlib.Core.List.{List}
 use Prim.Native.Nat.{ℕ}
-use lib.Bits as Bits
+use lib.Bits.{or-comm}
 use lib.Dec.{eqb}
 use Rattle.range.specs.declared.Range.{Range}
 use Rattle.range.specs.Limit.{zeroRange}
@@ -14,25 +14,16 @@ use Rattle.range.specs.Laws.{Symmetry}
 use Rattle.range.proofs.Laws.{laws}
 use Rattle.rules.specs.declared.Line.{Line}
 use Rattle.rules.specs.Formula.{Formula, given, _⊗_, sticky}
-use Rattle.rules.specs.Sets.{_∪_, apart, only}
+use Rattle.rules.specs.Sets.{_∪_, only}
 use Rattle.rules.specs.Table.{extended, spectrumOfSum, crossSpectrum, productSpectrum, starSpectrum}
+use Rattle.rules.proofs.SetTests.{apart-comm}
 
 abbrev S : Symmetry
 S = laws .symmetry
 
--- ---- sets
 union-comm : (s t : ℕ) → s ∪ t ≡ t ∪ s
-union-comm = Bits.or-comm
+union-comm = or-comm
 
-swapped : (a b c : Bool) → (a && (b && c)) ≡ (b && (a && c))
-swapped true b c = refl
-swapped false b c = sym (and-false b)
-
-pub apart-comm : (s t : ℕ) → apart s t ≡ apart t s
-unfolding apart
-apart-comm s t = rw (Bits.and-comm s t) (swapped (not (eqb s 0)) (not (eqb t 0)) (eqb (Bits.bitAnd t s) 0))
-
--- ---- spectra
 sum-exchanged : (e f : Formula) (b c : ℕ) → sticky (spectrumOfSum e b f c) ≡ sticky (spectrumOfSum f c e b)
 sum-exchanged e f b c =
     rw (
@@ -43,7 +34,7 @@ sum-exchanged e f b c =
     )
 
 cross-exchanged : (s : ℕ) (g h : List Range) → sticky (crossSpectrum s g h) ≡ sticky (crossSpectrum s h g)
-cross-exchanged s g h = rw (S .product (at g (only s)) (at h (only s)), S .products s g h, S .root s g h)
+cross-exchanged s g h = simp (S .product (at g (only s)) (at h (only s)), S .products s g h, S .root s g h)
 
 module _ (x y : Line) where
   pub product-exchanged : sticky (productSpectrum x y) ≡ sticky (productSpectrum y x)

@@ -1,11 +1,11 @@
--- What the tests on sets say of their members: sets that are apart share none, and a set of one has its one. Assumes nothing.
-use mathlib.Core.Path.{_≡_, sym, _∙_, ap, subst}
-use mathlib.Core.Bool.{not, _&&_}
+-- What the tests on sets say of their members: sets that are apart share none, in either order, and a set of one has its one. Assumes nothing.
+use mathlib.Core.Path.{_≡_, refl, sym, _∙_, ap, subst}
+use mathlib.Core.Bool.{Bool, true, false, not, _&&_, and-false}
 use Prim.Native.Nat.{ℕ, suc, _+_, _-_, _/_, _%_, _^_, _<_}
 use native.Mathlib.Decide.{ℕ-discrete}
 use native.Mathlib.Nat as N
 use native.Mathlib.Omega.{arith}
-use lib.Bits.{bitAnd}
+use lib.Bits.{bitAnd, and-comm}
 use lib.Count.{ones}
 use lib.Dec.{T, eqb, eqb→eq}
 use borrow.Author.Tests.{eq-eqb}
@@ -21,6 +21,15 @@ in-both s t a m n = subst (λ (d : ℕ). T (eqb d 1)) (both (eqb→eq (digit s a
   where
     both : digit s a ≡ 1 → digit t a ≡ 1 → 1 ≡ digit (bitAnd s t) a
     both p q = omega (arith, digit-and s t a)
+
+pub apart-disjoint : (s t : ℕ) → T (apart s t) → (a : ℕ) → T (has s a) → ¬ T (has t a)
+unfolding apart
+apart-disjoint s t h a m n = out-none a (subst (λ (u : ℕ). T (has u a)) empty (in-both s t a m n))
+  where
+    empty : bitAnd s t ≡ none
+    empty =
+        let rest = not (eqb t none) && eqb (bitAnd s t) none in
+        eqb→eq (bitAnd s t) none (and-right (not (eqb t none)) (eqb (bitAnd s t) none) (and-right (not (eqb s none)) rest h))
 
 -- sets that are not empty and share no factor are apart
 pub disjoint-apart : (s t : ℕ) → ¬ (s ≡ none) → ¬ (t ≡ none) → ((a : ℕ) → T (has s a) → ¬ T (has t a)) → T (apart s t)
@@ -38,14 +47,13 @@ disjoint-apart s t p q d =
     digit-one : (x : ℕ) → x ≡ 1 → T (eqb x 1)
     digit-one x e = true-T (eq-eqb x 1 e)
 
-pub apart-disjoint : (s t : ℕ) → T (apart s t) → (a : ℕ) → T (has s a) → ¬ T (has t a)
+pub apart-comm : (s t : ℕ) → apart s t ≡ apart t s
 unfolding apart
-apart-disjoint s t h a m n = out-none a (subst (λ (u : ℕ). T (has u a)) empty (in-both s t a m n))
+apart-comm s t = rw (and-comm s t) (swapped (not (eqb s none)) (not (eqb t none)) (eqb (bitAnd t s) none))
   where
-    empty : bitAnd s t ≡ none
-    empty =
-        let rest = not (eqb t none) && eqb (bitAnd s t) none in
-        eqb→eq (bitAnd s t) none (and-right (not (eqb t none)) (eqb (bitAnd s t) none) (and-right (not (eqb s none)) rest h))
+    swapped : (a b c : Bool) → (a && (b && c)) ≡ (b && (a && c))
+    swapped true b c = refl
+    swapped false b c = sym (and-false b)
 
 -- ---- sets of one
 -- the digit of 2^(j + 1 + a) at a

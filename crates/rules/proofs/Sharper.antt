@@ -31,13 +31,13 @@ use Rattle.rules.specs.Table.{extended, spectrumOfSum, productSpectrum, 
 use Rattle.rules.specs.Run.{line, through, linesOf}
 use Rattle.rules.specs.Sharper.{NeverWider}
 use Rattle.rules.proofs.Members.{_⊆_, left-in, in-either, out-none}
-use Rattle.rules.proofs.SetTests.{Only, single-only, apart-disjoint, disjoint-apart}
+use Rattle.rules.proofs.SetTests.{Only, single-only, apart-disjoint, disjoint-apart, apart-comm}
 use Rattle.rules.proofs.Along.{along-line}
 use Rattle.rules.proofs.Accepted.{run-lines}
 use Rattle.rules.proofs.Sparse.{SparseLine, product-zero, factor-sparse, sparse-kept}
 use Rattle.rules.proofs.Shaped.{FlatLine, factor-flat, flat-kept}
 use Rattle.rules.proofs.Nested.{NestedLine, factor-nested, nested-kept}
-use Rattle.rules.proofs.Exchanged.{apart-comm, star-exchanged, product-exchanged}
+use Rattle.rules.proofs.Exchanged.{star-exchanged, product-exchanged}
 use Rattle.rules.proofs.SharperCross.{around-cross}
 
 -- what is known of a line
