@@ -194,7 +194,24 @@ static inline int mulc_line(Line *z, const Line *x, unsigned px, int64_t c) {
     return 0;
 }
 
-static inline int mul_line(Line *z, const Line *x, unsigned px, unsigned bx, const Line *y, unsigned py, unsigned by) {
+/* Half of a + b - R and of a + b + R', R of the low ends and R' of the high ends, of request 4: a and b are A and B, most is M. Under a root is at
+   most 8 times the square of PAIR_LIMIT; the bend is within LIMIT. */
+static inline Range eigenvalues(Range a, Range b, int64_t most) {
+    int64_t low = a.low - b.low, high = a.high - b.high, crossed = 4 * most * most;
+    return (Range){half_down(a.low + b.low - root_up((uint64_t)(low * low + crossed))),
+                   half_down(a.high + b.high + root_up((uint64_t)(high * high + crossed)) + 1)};
+}
+
+/* The bend of a `mul` of request 4. C's largest magnitude is the product of the slopes' largest, rounded up. */
+static inline int pair_bend(Range *bend, const Line *x, unsigned px, const Line *y, unsigned py) {
+    Range left = product(y->value, x->bend), right = product(x->value, y->bend);
+    int64_t most = up(magnitude(x->slopes[__builtin_ctz(px)]) * magnitude(y->slopes[__builtin_ctz(py)]));
+    if (greater(greater(magnitude(left), magnitude(right)), most) > PAIR_LIMIT) return 12;
+    *bend = eigenvalues(left, right, most);
+    return 0;
+}
+
+static inline int mul_line(Line *z, const Line *x, unsigned px, unsigned bx, const Line *y, unsigned py, unsigned by, int pair) {
     STEP(value, product(x->value, y->value));
     z->value = value;
     EACH(a, px & ~py) {
@@ -211,6 +228,7 @@ static inline int mul_line(Line *z, const Line *x, unsigned px, unsigned bx, con
         STEP(slope, sum(left, right));
         z->slopes[a] = slope;
     }
+    if (pair) return pair_bend(&z->bend, x, px, y, py);
     Range crossed;
     if (cross(&crossed, x->slopes, px, y->slopes, py)) return 12;
     Range joined = {0, 0};
@@ -223,28 +241,6 @@ static inline int mul_line(Line *z, const Line *x, unsigned px, unsigned bx, con
     }
     STEP(bend, sum(crossed, joined));
     z->bend = bend;
-    return 0;
-}
-
-/* The bend of request 4: a and b are A and B, most is M. Under a root is at most 8 times the square of PAIR_LIMIT; the bend is within LIMIT. */
-static inline Range pair_bend(Range a, Range b, int64_t most) {
-    int64_t low = a.low - b.low, high = a.high - b.high, crossed = 4 * most * most;
-    return (Range){half_down(a.low + b.low - root_up((uint64_t)(low * low + crossed))),
-                   half_down(a.high + b.high + root_up((uint64_t)(high * high + crossed)) + 1)};
-}
-
-/* x depends on factor a alone, y on factor b alone; C's largest magnitude is the product of the slopes' largest, rounded up */
-static inline int pair_line(Line *z, const Line *x, unsigned a, const Line *y, unsigned b) {
-    STEP(value, product(x->value, y->value));
-    STEP(x_slope, product(y->value, x->slopes[a]));
-    STEP(y_slope, product(x->value, y->slopes[b]));
-    Range left = product(y->value, x->bend), right = product(x->value, y->bend);
-    int64_t most = up(magnitude(x->slopes[a]) * magnitude(y->slopes[b]));
-    if (greater(greater(magnitude(left), magnitude(right)), most) > PAIR_LIMIT) return 12;
-    z->value = value;
-    z->slopes[a] = x_slope;
-    z->slopes[b] = y_slope;
-    z->bend = pair_bend(left, right, most);
     return 0;
 }
 
@@ -306,14 +302,12 @@ static __attribute__((noinline)) Refusal rate(const Sheet *s, const int64_t *num
         Line *z = &lines[k];
         switch (o->name) {
         case ADD: refused = add_line(z, &lines[i], p[i], b[i], &lines[j], p[j], b[j]); break;
-        case MUL: refused = mul_line(z, &lines[i], p[i], b[i], &lines[j], p[j], b[j]); break;
+        case MUL: refused = mul_line(z, &lines[i], p[i], b[i], &lines[j], p[j], b[j], 0); break;
+        case PAIR: refused = mul_line(z, &lines[i], p[i], b[i], &lines[j], p[j], b[j], 1); break;
         case ADDC: refused = addc_line(z, &lines[i], o->number); break;
         case MULC: refused = mulc_line(z, &lines[i], p[i], o->number); break;
         case POW: refused = pow_line(z, &lines[i], p[i], b[i], (int)o->number); break;
         case INV: refused = inv_line(z, &lines[i], p[i], b[i]); break;
-        case PAIR:
-            refused = pair_line(z, &lines[i], (unsigned)__builtin_ctz(p[i]), &lines[j], (unsigned)__builtin_ctz(p[j]));
-            break;
         }
         if (refused) return (Refusal){refused, k + 1};
     }
