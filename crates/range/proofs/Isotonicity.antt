@@ -5,7 +5,7 @@ use mathlib.Core.Logic.{inl, inr}
 use Prim.Native.Nat.{ℕ, zero, suc, _*_, _<_, zero-le}
 use native.Mathlib.Nat as N
 use lib.Dec.{T}
-use lib.IntN.{ℤ, pos, negℤ, _*ℤ_, natAbs}
+use lib.IntN.{ℤ, pos, _*ℤ_, natAbs}
 use lib.Signed.{leZ, _≤ℤ_, ≤ℤ-refl, <ℤ-≤ℤ-trans, leZ-yes}
 use Rattle.algebra.proofs.Ordered as Ord
 use Rattle.algebra.proofs.Int.{ℤ-ordered}

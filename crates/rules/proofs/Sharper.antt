@@ -15,7 +15,7 @@ use Rattle.codelist.specs.declared.Codelist.{Codelist}
 use Rattle.codelist.specs.Codelist.{Earlier, Ratable}
 use Rattle.range.specs.declared.Range.{Range}
 use Rattle.range.specs.Limit.{zeroRange, isValid}
-use Rattle.range.specs.Arithmetic.{sumOf, productOf, hullOf}
+use Rattle.range.specs.Arithmetic.{productOf, hullOf}
 use Rattle.range.specs.Sums.{has, at}
 use Rattle.range.specs.Star.{isHalf, starOf}
 use Rattle.range.specs.Laws.{_⊑_}

@@ -1,6 +1,6 @@
 -- `range::Range::ends_star` meets its contract. Assumes nothing.
 use borrow.Author.Needs.{needs}
-use mathlib.Core.Path.{_≡_, sym, subst, _∙_}
+use mathlib.Core.Path.{sym, subst, _∙_}
 use lib.IntN.{_+ℤ_, _-ℤ_}
 use Rattle.exact.specs.Div.{floorDiv, ceilDiv}
 use Rattle.range.specs.Star.{starRoot, endsStar}
