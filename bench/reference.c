@@ -1,4 +1,4 @@
-/* The rules of paper 01, with requests 2 and 4 of 02, in plain C, unverified and written for speed: what the proved engine is timed against.
+/* The rules of paper 01, with requests 2, 4 and 5 of 02, in plain C, unverified and written for speed: what the proved engine is timed against.
    reference < INPUT prints what `rate` prints; reference N < INPUT loads once, rates N times and prints the last result.
 
    Ends of ranges are within 2,000,000,000 units, so a product of two fits 64 bits; only a sum of squares and the product under Cross's root may
@@ -373,6 +373,7 @@ static Refusal load(Sheet *s, Text t) {
         if (i < 1 || i > k || (two && (j < 1 || j > k))) return (Refusal){5, place};
         if (name == POW && (j < 2 || j > 8)) return (Refusal){6, place};
         if ((name == ADDC || name == MULC) && (j < -LIMIT || j > LIMIT)) return (Refusal){7, place};
+        if (name == MULC && j == 0) return (Refusal){15, place};
         i--;
         s->operations[k] = (Operation){(Name)name, (int)i, two ? (int)j - 1 : 0, j};
         s->depends[k] = s->depends[i];

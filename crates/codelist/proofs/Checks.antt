@@ -1,4 +1,4 @@
--- A line that passes the checks of 5, 6 and 7 is that of a well formed operation, and the line of one passes them.
+-- A line that passes the checks of 5, 6, 7 and 15 is that of a well formed operation, and the line of one passes them.
 use Prim.Native.Nat.{ℕ, zero, suc, _≤_}
 use mathlib.Core.Bool.{Bool, true, false, cond, _&&_, false≢true}
 use mathlib.Core.Logic.{_⊎_, inl, inr, ⊎-elim}
@@ -14,12 +14,12 @@ use Rattle.codelist.specs.declared.Numeral.{Numeral}
 use Rattle.codelist.specs.declared.Op.{Op}
 use Rattle.codelist.specs.declared.Op.the-variants as op
 use Rattle.codelist.specs.declared.Refusal.{Refusal}
-use Rattle.codelist.specs.declared.Refusal.the-variants.{Reference, Exponent, Constant}
+use Rattle.codelist.specs.declared.Refusal.the-variants.{Reference, Exponent, Constant, ZeroMultiplier}
 use Rattle.codelist.specs.Text.{IsNumeral, HasNumerals}
 use Rattle.exact.specs.Units.{limit}
 use Rattle.codelist.specs.Codelist.{Earlier, WellFormedOp}
 use Rattle.codelist.specs.Write.{plain, numeralOf, textLineOf}
-use Rattle.codelist.specs.Conditions.{isBetween, refersBack, exponentFits, constantFits}
+use Rattle.codelist.specs.Conditions.{isBetween, refersBack, exponentFits, constantFits, multiplierFits}
 use Rattle.codelist.specs.Load.{valueOf, opOf, checkedOf}
 use Rattle.codelist.specs.Views.{Fits}
 use Rattle.codelist.proofs.Laws.{both-true, between-inv}
@@ -97,18 +97,21 @@ module _ (e : ℕ) where
 
   -- The line of an operation that its checks let pass
   keeps : (l : TextLine) → HasNumerals l → refersBack e l ≡ true → exponentFits l ≡ true → constantFits l ≡ true
-      → WellFormedOp e (opOf l) × (l ≡ textLineOf (opOf l))
-  unfolding refersBack exponentFits constantFits
-  keeps (Add i j) f p q r = let ((a, x), (b, y)) = references i j p in ((a, b), λ k. Add (x k) (y k))
-  keeps (Mul i j) f p q r = let ((a, x), (b, y)) = references i j p in ((a, b), λ k. Mul (x k) (y k))
-  keeps (AddC i c) f p q r = let (a, x) = reference i p in let (b, y) = constant c (f .1) r in ((a, b), λ k. AddC (x k) (y k))
-  keeps (MulC i c) f p q r = let (a, x) = reference i p in let (b, y) = constant c (f .1) r in ((a, b), λ k. MulC (x k) (y k))
-  keeps (Pow i m) f p q r =
+      → multiplierFits l ≡ true → WellFormedOp e (opOf l) × (l ≡ textLineOf (opOf l))
+  unfolding refersBack exponentFits constantFits multiplierFits
+  keeps (Add i j) f p q r s = let ((a, x), (b, y)) = references i j p in ((a, b), λ k. Add (x k) (y k))
+  keeps (Mul i j) f p q r s = let ((a, x), (b, y)) = references i j p in ((a, b), λ k. Mul (x k) (y k))
+  keeps (AddC i c) f p q r s = let (a, x) = reference i p in let (b, y) = constant c (f .1) r in ((a, b), λ k. AddC (x k) (y k))
+  keeps (MulC i c) f p q r s =
+      let (a, x) = reference i p in
+      let (b, y) = constant c (f .1) r in
+      ((a, b, subst (λ (m : ℕ). 1 ≤ m) (sym (abs-value c)) (leb-true 1 (c .magnitude) s)), λ k. MulC (x k) (y k))
+  keeps (Pow i m) f p q r s =
       let (a, x) = reference i p in
       let v = between-inv 2 8 m q in
       let y : m ≡ plain (m .magnitude) = sym (plain-is m (v .0)) in
       ((a, (v .1, v .2)), λ k. Pow (x k) (y k))
-  keeps (Inv i) f p q r = let (a, x) = reference i p in (a, λ k. Inv (x k))
+  keeps (Inv i) f p q r s = let (a, x) = reference i p in (a, λ k. Inv (x k))
 
 -- What a test decides
 pub cond-inv : {A : Type 0} (b : Bool) (x y z : A) → cond b x y ≡ z → ((b ≡ true) × (x ≡ z)) ⊎ ((b ≡ false) × (y ≡ z))
@@ -121,12 +124,16 @@ check-sound p e l o f h =
     ⊎-elim
     (λ a. ⊎-elim
     (λ b. ⊎-elim
-    (λ c. let g : opOf l ≡ o = cc (c .1) in subst (λ (x : Op). WellFormedOp e x × (l ≡ textLineOf x)) g (keeps e l f (a .0) (b .0) (c .0)))
-    (λ c. faulty (Constant p) (c .1))
+    (λ c. ⊎-elim
+    (λ d. let g : opOf l ≡ o = cc (d .1) in
+    subst (λ (x : Op). WellFormedOp e x × (l ≡ textLineOf x)) g (keeps e l f (a .0) (b .0) (c .0) (d .0)))
+    (λ d. faulty _ (d .1))
+    (cond-inv (multiplierFits l) _ _ (Fine o) (c .1)))
+    (λ c. faulty _ (c .1))
     (cond-inv (constantFits l) _ _ (Fine o) (b .1)))
-    (λ b. faulty (Exponent p) (b .1))
+    (λ b. faulty _ (b .1))
     (cond-inv (exponentFits l) _ _ (Fine o) (a .1)))
-    (λ a. faulty (Reference p) (a .1))
+    (λ a. faulty _ (a .1))
     (cond-inv (refersBack e l) _ _ (Fine o) h)
   where
     faulty : {X : Type 0} (r : Refusal) → Fault r ≡ Fine o → X
@@ -137,6 +144,8 @@ pub data Broken (p e : ℕ) (l : TextLine) : Refusal → Type 0 where
   broken-reference : refersBack e l ≡ false → Broken p e l (Reference p)
   broken-exponent : refersBack e l ≡ true → exponentFits l ≡ false → Broken p e l (Exponent p)
   broken-constant : refersBack e l ≡ true → exponentFits l ≡ true → constantFits l ≡ false → Broken p e l (Constant p)
+  broken-multiplier : refersBack e l ≡ true → exponentFits l ≡ true → constantFits l ≡ true → multiplierFits l ≡ false
+      → Broken p e l (ZeroMultiplier p)
 
 pub fault-sound : (p e : ℕ) (l : TextLine) (r : Refusal) → checkedOf p e l ≡ Fault r → Broken p e l r
 unfolding checkedOf
@@ -144,7 +153,10 @@ fault-sound p e l r h =
     ⊎-elim
     (λ a. ⊎-elim
     (λ b. ⊎-elim
-    (λ c. absurd (let q = c .1 in let z : _≡_ {A = ℕ} 0 1 = cc q in omega arith))
+    (λ c. ⊎-elim
+    (λ d. absurd (let q = d .1 in let z : _≡_ {A = ℕ} 0 1 = cc q in omega arith))
+    (λ d. told (ZeroMultiplier p) (broken-multiplier (a .0) (b .0) (c .0) (d .0)) (d .1))
+    (cond-inv (multiplierFits l) _ _ (Fault r) (c .1)))
     (λ c. told (Constant p) (broken-constant (a .0) (b .0) (c .0)) (c .1))
     (cond-inv (constantFits l) _ _ (Fault r) (b .1)))
     (λ b. told (Exponent p) (broken-exponent (a .0) (b .0)) (b .1))
@@ -160,6 +172,7 @@ unfolding checkedOf
 fault-complete p e l r (broken-reference a) = simp a
 fault-complete p e l r (broken-exponent a b) = simp (a, b)
 fault-complete p e l r (broken-constant a b c) = simp (a, b, c)
+fault-complete p e l r (broken-multiplier a b c d) = simp (a, b, c, d)
 
 -- A well formed operation is written, and passes the checks
 module _ (p e : ℕ) (small : e ≤ 64) where
@@ -167,7 +180,7 @@ module _ (p e : ℕ) (small : e ≤ 64) where
   writes (op.Add i j) (g, h) = (plain-numeral i (omega arith), plain-numeral j (omega arith))
   writes (op.Mul i j) (g, h) = (plain-numeral i (omega arith), plain-numeral j (omega arith))
   writes (op.AddC i c) (g, h) = (plain-numeral i (omega arith), constant-numeral c h)
-  writes (op.MulC i c) (g, h) = (plain-numeral i (omega arith), constant-numeral c h)
+  writes (op.MulC i c) (g, h, _) = (plain-numeral i (omega arith), constant-numeral c h)
   writes (op.Pow i m) (g, h) = (plain-numeral i (omega arith), plain-numeral m (omega arith))
   writes (op.Inv i) g = plain-numeral i (omega arith)
 
@@ -177,11 +190,14 @@ module _ (p e : ℕ) (small : e ≤ 64) where
   constant-fits : (c : ℤ) → natAbs c ≤ limit → leb (numeralOf c .magnitude) limit ≡ true
   constant-fits c h = le-leb (numeralOf c .magnitude) limit (rw (abs-numeral c) h)
 
+  multiplier-fits : (c : ℤ) → 1 ≤ natAbs c → leb 1 (numeralOf c .magnitude) ≡ true
+  multiplier-fits c h = le-leb 1 (numeralOf c .magnitude) (rw (abs-numeral c) h)
+
   pub check-complete : (o : Op) → WellFormedOp e o → checkedOf p e (textLineOf o) ≡ Fine o
-  unfolding checkedOf refersBack exponentFits constantFits
+  unfolding checkedOf refersBack exponentFits constantFits multiplierFits
   check-complete (op.Add i j) (g, h) = simp (earlier i g, earlier j h)
   check-complete (op.Mul i j) (g, h) = simp (earlier i g, earlier j h)
   check-complete (op.AddC i c) (g, h) = simp (earlier i g, constant-fits c h, value-numeral)
-  check-complete (op.MulC i c) (g, h) = simp (earlier i g, constant-fits c h, value-numeral)
+  check-complete (op.MulC i c) (g, h, k) = simp (earlier i g, constant-fits c h, multiplier-fits c k, value-numeral)
   check-complete (op.Pow i m) (g, h) = simp (earlier i g, between-yes 2 8 m (h .0) (h .1))
   check-complete (op.Inv i) g = simp (earlier i g)

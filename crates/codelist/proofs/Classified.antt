@@ -24,11 +24,11 @@ use Rattle.codelist.specs.Conditions.{isBetween}
 use Rattle.codelist.specs.Read.{Read, good, bad, operationLine, firstLine}
 use Rattle.codelist.specs.Load.{refused, accepted, codelistOf, ended, onFirst, operationLines, loadOf}
 use Rattle.codelist.specs.Refused.{Upto, RefusedFor, too-long, no-first-line, malformed, factor-count, too-many-lines, no-operation}
-use Rattle.codelist.specs.Refused.{reference, exponent, constant}
+use Rattle.codelist.specs.Refused.{reference, exponent, constant, multiplier}
 use Rattle.codelist.proofs.Laws.{between-inv}
 use Rattle.codelist.proofs.NumeralTexts.{never}
 use Rattle.codelist.proofs.LineTexts.{line-sound, line-complete, first-sound, first-complete}
-use Rattle.codelist.proofs.Checks.{plain-is, Broken, broken-reference, broken-exponent, broken-constant, fault-sound}
+use Rattle.codelist.proofs.Checks.{plain-is, Broken, broken-reference, broken-exponent, broken-constant, broken-multiplier, fault-sound}
 use Rattle.codelist.proofs.Traces.{Stop, at-end, at-bad, at-full, at-fault, Trace, trace}
 
 -- The codelist of n factors and well formed operations
@@ -76,6 +76,7 @@ module _ (s : List ℕ) (short : length s ≤ 4096) where
     broken xs rest l u r p a h (broken-reference b) = reference (record { rest = rest; upto = p; line = a; room = h }) b
     broken xs rest l u r p a h (broken-exponent b c) = exponent (record { rest = rest; upto = p; line = a; room = h }) b c
     broken xs rest l u r p a h (broken-constant b c d) = constant (record { rest = rest; upto = p; line = a; room = h }) b c d
+    broken xs rest l u r p a h (broken-multiplier b c d m) = multiplier (record { rest = rest; upto = p; line = a; room = h }) b c d m
 
     stopped : (xs : List Entry) (left : ℕ) (rest : List ℕ) (result : Loaded) → Upto s n xs rest → length xs + left ≡ 64 - n
         → Stop n left xs rest result → Class s result

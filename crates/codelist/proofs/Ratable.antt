@@ -1,21 +1,24 @@
 -- The Boolean `ratable` is true exactly where a codelist is ratable, and one step of it, as the loop of the code takes it; what a codelist with
--- fitting counts and a ratable one have besides; and that every well formed one is ratable.
+-- fitting counts and a ratable one have besides; that every well formed one is ratable; and that none
+-- multiplies by 0.
 use Prim.Native.Nat.{ℕ, _+_, _-_, _≤_, _<_}
 use mathlib.Core.Bool.{true, false, _&&_}
 use mathlib.Core.List.{List}
-use mathlib.Core.Path.{_≡_, sym, ap, _∙_}
+use mathlib.Core.Path.{_≡_, sym, ap, subst, _∙_}
 use native.Mathlib.Numerals.{add-one}
 use native.Mathlib.Omega.{arith}
 use lib.Dec.{leb, eqb}
+use lib.IntN.{ℤ, pos}
 use lib.ListN.{length, getD, take, drop, length-replicate, length-drop, drop-of-length-le}
 use lib.Seq.{drop-cons, getD-take, length-take-le}
 use borrow.Author.Tests.{le-leb, eq-eqb, leb-true, eqb-true}
 use Rattle.codelist.specs.declared.Codelist.{Codelist}
 use Rattle.codelist.specs.declared.Entry.{Entry}
-use Rattle.codelist.specs.Codelist.{blank, WellFormed, Ratable, wellFormedOp, wellFormedOps, inBounds, ratable}
-use Rattle.codelist.specs.Codelist.{DecidesRatable}
+use Rattle.codelist.specs.declared.Op.the-variants.{MulC}
+use Rattle.codelist.specs.Codelist.{blank, WellFormedOp, WellFormed, Ratable, wellFormedOp, wellFormedOps, inBounds, ratable}
+use Rattle.codelist.specs.Codelist.{DecidesRatable, NoZeroMultiplier}
 use Rattle.codelist.proofs.Laws.{both-true, both-made}
-use Rattle.codelist.proofs.WellFormed.{ops-sound, ops-complete}
+use Rattle.codelist.proofs.WellFormed.{op-sound, ops-sound, ops-complete, op-at}
 
 -- What the test of the counts says
 pub record Counts (c : Codelist) : Type 0 where
@@ -113,3 +116,15 @@ complete c w =
 -- `ratable` IS TRUE EXACTLY WHERE A CODELIST IS RATABLE
 pub decides : DecidesRatable
 decides c = (sound c, complete c)
+
+-- NO MULTIPLYING BY NOTHING
+pub no-zero-multiplier : NoZeroMultiplier
+no-zero-multiplier = record {
+  tested = λ e i c p z. none e i (subst (λ (n : ℤ). WellFormedOp e (MulC i n)) z (op-sound e (MulC i c) p));
+  held = λ c w k i h z.
+      let o = op-at (c .factors) (take (c .count) (c .ops)) blank k (w .each) (omega (arith, taken c w)) in
+      none (c .factors + k) i (subst (WellFormedOp (c .factors + k)) (ap (λ (x : Entry). x .op) (getD-take (c .count) (c .ops) k blank h) ∙ z) o);
+}
+  where
+    none : (e i : ℕ) → WellFormedOp e (MulC i (pos 0)) → ⊥
+    none e i w = omega (arith, w .2)

@@ -18,9 +18,9 @@ use Rattle.codelist.specs.Text.{LineAt}
 use Rattle.codelist.specs.Read.{Read, good, bad, operationLine, firstLine}
 use Rattle.codelist.specs.Load.{refused, accepted, onFirst, operationLines, loadOf}
 use Rattle.codelist.specs.Refused.{Next, RefusedFor, too-long, no-first-line, malformed, factor-count, too-many-lines, no-operation}
-use Rattle.codelist.specs.Refused.{reference, exponent, constant, RefusedExactly}
+use Rattle.codelist.specs.Refused.{reference, exponent, constant, multiplier, RefusedExactly}
 use Rattle.codelist.proofs.LineTexts.{line-sound, line-complete, first-sound}
-use Rattle.codelist.proofs.Checks.{Broken, broken-reference, broken-exponent, broken-constant, fault-complete}
+use Rattle.codelist.proofs.Checks.{Broken, broken-reference, broken-exponent, broken-constant, broken-multiplier, fault-complete}
 use Rattle.codelist.proofs.Steps.{step-end, step-bad, step-full, step-fault}
 use Rattle.codelist.proofs.Classified.{Class, kept, turned-down, classify}
 use Rattle.codelist.proofs.Resumed.{not-long, first-read, resumed}
@@ -69,6 +69,7 @@ refused-complete s r (no-operation {n} u) = resumed s n [] [] (64 - (n + 0)) u (
 refused-complete s r (reference {n} {done} {l} {t} a b) = breaks s n done l t _ a (broken-reference b)
 refused-complete s r (exponent {n} {done} {l} {t} a b c) = breaks s n done l t _ a (broken-exponent b c)
 refused-complete s r (constant {n} {done} {l} {t} a b c d) = breaks s n done l t _ a (broken-constant b c d)
+refused-complete s r (multiplier {n} {done} {l} {t} a b c d m) = breaks s n done l t _ a (broken-multiplier b c d m)
 
 -- REFUSED EXACTLY AS THE TABLE SAYS
 pub refused-exactly : RefusedExactly

@@ -1,18 +1,19 @@
 -- Well formed operations: the test of one, and of several in a row, is true exactly where they are well formed.
-use Prim.Native.Nat.{ℕ, _+_, _≤_}
+use Prim.Native.Nat.{ℕ, suc, zero, _+_, _≤_, _<_}
 use mathlib.Core.Bool.{Bool, true, _&&_}
 use mathlib.Core.List.{List, [], _∷_, map}
-use mathlib.Core.Path.{_≡_, refl, sym, _∙_}
+use mathlib.Core.Path.{_≡_, refl, sym, subst, _∙_}
+use native.Mathlib.Nat.{add-zero}
 use native.Mathlib.Omega.{arith}
 use lib.Dec.{leb}
 use lib.IntN.{ℤ, pos, negsuc, natAbs}
-use lib.ListN.{length, length-map}
+use lib.ListN.{length, getD, length-map}
 use borrow.Author.Tests.{le-leb, leb-true}
 use Rattle.codelist.specs.declared.Entry.{Entry}
 use Rattle.codelist.specs.declared.Op.{Op}
 use Rattle.codelist.specs.declared.Op.the-variants.{Add, Mul, AddC, MulC, Pow, Inv}
 use Rattle.exact.specs.Units.{limit}
-use Rattle.codelist.specs.Codelist.{Earlier, WellFormedOp, WellFormedOps, isEarlier, isExponent, isConstant}
+use Rattle.codelist.specs.Codelist.{Earlier, WellFormedOp, WellFormedOps, isEarlier, isExponent, isConstant, isMultiplier}
 use Rattle.codelist.specs.Codelist.{wellFormedOp, wellFormedOps}
 use Rattle.codelist.proofs.Laws.{both-true, both-made}
 
@@ -49,7 +50,9 @@ pub op-sound : (e : ℕ) (o : Op) → wellFormedOp e o ≡ true → WellFormedOp
 op-sound e (Add i j) p = pair-sound _ _ (earlier-sound e i) (earlier-sound e j) p
 op-sound e (Mul i j) p = pair-sound _ _ (earlier-sound e i) (earlier-sound e j) p
 op-sound e (AddC i c) p = pair-sound _ _ (earlier-sound e i) (constant-sound c) p
-op-sound e (MulC i c) p = pair-sound _ _ (earlier-sound e i) (constant-sound c) p
+op-sound e (MulC i c) p =
+    let (q, r) = pair-sound _ _ (earlier-sound e i) (pair-sound _ _ (constant-sound c) (leb-true 1 (natAbs c))) p in
+    (q, r .0, r .1)
 op-sound e (Pow i m) p = pair-sound _ _ (earlier-sound e i) (exponent-sound m) p
 op-sound e (Inv i) p = earlier-sound e i p
 
@@ -57,7 +60,8 @@ op-complete : (e : ℕ) (o : Op) → WellFormedOp e o → wellFormedOp e o ≡ t
 op-complete e (Add i j) (p, q) = both-made _ _ (earlier-complete e i p) (earlier-complete e j q)
 op-complete e (Mul i j) (p, q) = both-made _ _ (earlier-complete e i p) (earlier-complete e j q)
 op-complete e (AddC i c) (p, q) = both-made _ _ (earlier-complete e i p) (constant-complete c q)
-op-complete e (MulC i c) (p, q) = both-made _ _ (earlier-complete e i p) (constant-complete c q)
+op-complete e (MulC i c) (p, q, r) =
+    both-made _ _ (earlier-complete e i p) (both-made (isConstant c) (isMultiplier c) (constant-complete c q) (le-leb 1 (natAbs c) r))
 op-complete e (Pow i m) (p, q) = both-made _ _ (earlier-complete e i p) (exponent-complete m q)
 op-complete e (Inv i) p = earlier-complete e i p
 
@@ -71,3 +75,11 @@ pub ops-complete : (e : ℕ) (xs : List Entry) → WellFormedOps e xs → wellFo
 unfolding wellFormedOps
 ops-complete e [] w = refl
 ops-complete e (x ∷ xs) (p, q) = both-made _ _ (op-complete e (x .op) p) (ops-complete (e + 1) xs q)
+
+-- One of them, by its index
+pub op-at : (e : ℕ) (xs : List Entry) (d : Entry) (k : ℕ) → WellFormedOps e xs → k < length xs → WellFormedOp (e + k) (getD xs k d .op)
+op-at e [] d k w h = absurd (omega arith)
+op-at e (x ∷ xs) d zero w h = rw (add-zero e) (w .0)
+op-at e (x ∷ xs) d (suc k) w h =
+    let m : e + 1 + k ≡ e + suc k = omega arith in
+    subst (λ (n : ℕ). WellFormedOp n (getD xs k d .op)) m (op-at (e + 1) xs d k (w .1) (omega arith))

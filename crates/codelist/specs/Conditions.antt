@@ -1,4 +1,4 @@
--- The conditions of 01's refusals 3, 5, 6 and 7 on numbers as they are written.
+-- The conditions of 01's refusals 3, 5, 6 and 7, and of 02's refusal 15, on numbers as they are written.
 use Prim.Native.Nat.{ℕ}
 use mathlib.Core.Bool.{Bool, true, false, cond, _&&_}
 use lib.Dec.{leb}
@@ -37,3 +37,12 @@ constantFits (Add i j) = true
 constantFits (Mul i j) = true
 constantFits (Pow i m) = true
 constantFits (Inv i) = true
+
+-- 15: "`mulc` with the constant 0 is to be refused at loading" (02, request 5). A numeral 0 has one spelling, without a minus: its magnitude tells
+unfoldable pub multiplierFits : TextLine → Bool
+multiplierFits (MulC i c) = leb 1 (c .magnitude)
+multiplierFits (Add i j) = true
+multiplierFits (Mul i j) = true
+multiplierFits (AddC i c) = true
+multiplierFits (Pow i m) = true
+multiplierFits (Inv i) = true

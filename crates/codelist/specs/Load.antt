@@ -1,5 +1,6 @@
 -- Loading: the whole codelist, or one refusal. 01, "Refusals that come from the input", 1 to 7, and "Loading: 1 first, then text lines
--- from the top, within a line in the order 2, 3, 4, 5, 6, 7; a sheet without operations is found last."
+-- from the top, within a line in the order 2, 3, 4, 5, 6, 7; a sheet without operations is found last." 02, request 5: 15, "with the text line as
+-- place, checked right after 7 in its line".
 use Prim.Native.Nat.{ℕ, suc, zero, _+_, _-_, _^_, min}
 use mathlib.Core.Bool.{Bool, cond}
 use mathlib.Core.List.{List, [], _∷_, _++_}
@@ -19,12 +20,12 @@ use Rattle.codelist.specs.declared.Op.the-variants as op
 use Rattle.codelist.specs.declared.Outcome.the-variants.{Accepted, Refused}
 use Rattle.codelist.specs.declared.Refusal.{Refusal}
 use Rattle.codelist.specs.declared.Refusal.the-variants.{TooLong, Malformed, FactorCount, TooManyLines, NoOperation, Reference}
-use Rattle.codelist.specs.declared.Refusal.the-variants.{Exponent, Constant}
+use Rattle.codelist.specs.declared.Refusal.the-variants.{Exponent, Constant, ZeroMultiplier}
 use Rattle.codelist.specs.Codelist.{blank}
-use Rattle.codelist.specs.Conditions.{isBetween, refersBack, exponentFits, constantFits}
+use Rattle.codelist.specs.Conditions.{isBetween, refersBack, exponentFits, constantFits, multiplierFits}
 use Rattle.codelist.specs.Read.{Read, good, bad, operationLine, firstLine}
 
--- 01's number and place of each refusal
+-- The number and place of each refusal
 abbrev pub numberOf : Refusal → ℕ
 numberOf TooLong = 1
 numberOf (Malformed p) = 2
@@ -34,6 +35,7 @@ numberOf NoOperation = 4
 numberOf (Reference p) = 5
 numberOf (Exponent p) = 6
 numberOf (Constant p) = 7
+numberOf (ZeroMultiplier p) = 15
 
 abbrev pub placeOf : Refusal → ℕ
 placeOf TooLong = 0
@@ -44,10 +46,11 @@ placeOf NoOperation = 1
 placeOf (Reference p) = p
 placeOf (Exponent p) = p
 placeOf (Constant p) = p
+placeOf (ZeroMultiplier p) = p
 
 -- The numbers of loading, in the order of checking
 abbrev pub loadNumbers : List ℕ
-loadNumbers = 1 ∷ 2 ∷ 3 ∷ 4 ∷ 5 ∷ 6 ∷ 7 ∷ []
+loadNumbers = 1 ∷ 2 ∷ 3 ∷ 4 ∷ 5 ∷ 6 ∷ 7 ∷ 15 ∷ []
 
 -- "A refusal carries number and place, every other field is 0": the codelist is the empty one
 unfoldable pub empty : Codelist
@@ -85,12 +88,13 @@ opOf (Inv i) = op.Inv (i .magnitude)
 abbrev pub unless : {A : Type 0} → Bool → A → A → A
 unless b x y = cond b y x
 
--- The line at text line p, with e codelist lines before it: 5, then 6, then 7
+-- The line at text line p, with e codelist lines before it: 5, then 6, then 7, then 15
 unfoldable pub checkedOf : ℕ → ℕ → TextLine → Checked
 checkedOf p e l =
     unless (refersBack e l) (Fault (Reference p))
     (unless (exponentFits l) (Fault (Exponent p))
-    (unless (constantFits l) (Fault (Constant p)) (Fine (opOf l))))
+    (unless (constantFits l) (Fault (Constant p))
+    (unless (multiplierFits l) (Fault (ZeroMultiplier p)) (Fine (opOf l)))))
 
 -- The end of the text, after the operations ops: there must be one
 abbrev pub ended : ℕ → List Entry → Loaded

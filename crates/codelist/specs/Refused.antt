@@ -1,4 +1,4 @@
--- What each of 01's refusals 1 to 7 says of the bytes, beside the table of 01. A statement; the proof is in proofs/Refused.antt.
+-- What each of 01's refusals 1 to 7, and 02's refusal 15, says of the bytes, beside the table of 01. A statement; the proof is in proofs/Refused.antt.
 use Prim.Native.Nat.{ℕ, _+_, _≤_, _<_}
 use mathlib.Core.Bool.{true, false}
 use mathlib.Core.List.{List, [], _++_}
@@ -11,11 +11,11 @@ use Rattle.codelist.specs.Text.{TextLine}
 use Rattle.codelist.specs.declared.Numeral.{Numeral}
 use Rattle.codelist.specs.declared.Refusal.{Refusal}
 use Rattle.codelist.specs.declared.Refusal.the-variants.{TooLong, Malformed, FactorCount, TooManyLines, NoOperation, Reference}
-use Rattle.codelist.specs.declared.Refusal.the-variants.{Exponent, Constant}
+use Rattle.codelist.specs.declared.Refusal.the-variants.{Exponent, Constant, ZeroMultiplier}
 use Rattle.codelist.specs.Text.{firstText, FirstAt, LineAt}
 use Rattle.codelist.specs.Codelist.{WellFormedOps}
 use Rattle.codelist.specs.Write.{plain, opsText}
-use Rattle.codelist.specs.Conditions.{isBetween, refersBack, exponentFits, constantFits}
+use Rattle.codelist.specs.Conditions.{isBetween, refersBack, exponentFits, constantFits, multiplierFits}
 use Rattle.codelist.specs.Load.{accepted, refused, loadOf}
 
 -- The text s has at most 4,096 bytes, and its first lines are within the rules: n factors, and the operations done. What is left is
@@ -48,13 +48,16 @@ pub data RefusedFor (s : List ℕ) : Refusal → Type 0 where
   too-many-lines : {n : ℕ} {done : List Entry} {rest : List ℕ} {l : TextLine} {t : List ℕ} → Upto s n done rest → LineAt rest l t
       → n + length done ≡ 64 → RefusedFor s (TooManyLines (length done + 2))
   no-operation : {n : ℕ} → Upto s n [] [] → RefusedFor s NoOperation
-  -- 5, 6, 7 at p: a line that breaks the condition, and none of the conditions before it
+  -- 5, 6, 7, 15 at p: a line that breaks the condition, and none of the conditions before it
   reference : {n : ℕ} {done : List Entry} {l : TextLine} {t : List ℕ} → Next s n done l t
       → refersBack (n + length done) l ≡ false → RefusedFor s (Reference (length done + 2))
   exponent : {n : ℕ} {done : List Entry} {l : TextLine} {t : List ℕ} → Next s n done l t
       → refersBack (n + length done) l ≡ true → exponentFits l ≡ false → RefusedFor s (Exponent (length done + 2))
   constant : {n : ℕ} {done : List Entry} {l : TextLine} {t : List ℕ} → Next s n done l t
       → refersBack (n + length done) l ≡ true → exponentFits l ≡ true → constantFits l ≡ false → RefusedFor s (Constant (length done + 2))
+  multiplier : {n : ℕ} {done : List Entry} {l : TextLine} {t : List ℕ} → Next s n done l t
+      → refersBack (n + length done) l ≡ true → exponentFits l ≡ true → constantFits l ≡ true → multiplierFits l ≡ false
+      → RefusedFor s (ZeroMultiplier (length done + 2))
 
 pub record RefusedExactly : Type 0 where
   pub where-listed : (s : List ℕ) (r : Refusal) → (loadOf s ≡ refused r) ↔ RefusedFor s r

@@ -62,7 +62,7 @@ impl Codelist {
     }
 }
 
-// Why a text is refused: 01's refusals 1 to 7. The number held is that of the text line, from 1.
+// Why a text is refused: 01's refusals 1 to 7, and 15 of 02. The number held is that of the text line, from 1.
 pub enum Refusal {
     // 1: more than 4,096 bytes.
     TooLong,
@@ -80,6 +80,8 @@ pub enum Refusal {
     Exponent(u64),
     // 7: a constant beyond the limit.
     Constant(u64),
+    // 15: a multiplication by the constant 0.
+    ZeroMultiplier(u64),
 }
 
 impl Refusal {
@@ -96,6 +98,7 @@ impl Refusal {
             Refusal::Reference(_) => 5,
             Refusal::Exponent(_) => 6,
             Refusal::Constant(_) => 7,
+            Refusal::ZeroMultiplier(_) => 15,
         }
     }
 
@@ -112,6 +115,7 @@ impl Refusal {
             Refusal::Reference(line) => line,
             Refusal::Exponent(line) => line,
             Refusal::Constant(line) => line,
+            Refusal::ZeroMultiplier(line) => line,
         }
     }
 }
@@ -189,7 +193,7 @@ pub fn pair_at(s: &[u8], at: usize) -> PairRead
     }
 }
 
-// Loading (01, "The sheet" and refusals 1 to 7): the whole codelist, or one refusal.
+// Loading (01, "The sheet" and refusals 1 to 7; 02's refusal 15): the whole codelist, or one refusal.
 pub fn load(bytes: &[u8]) -> Loaded
     ensures { λ r. ⌜ r ≡ loadOf (now (bytes .entry)) ⌝ }
 {
@@ -217,7 +221,10 @@ pub fn is_op_well_formed(earlier: u64, op: Op) -> bool
         Op::Add(i, j) => well_formed::is_earlier(earlier, i) & well_formed::is_earlier(earlier, j),
         Op::Mul(i, j) => well_formed::is_earlier(earlier, i) & well_formed::is_earlier(earlier, j),
         Op::AddC(i, c) => well_formed::is_earlier(earlier, i) & well_formed::is_constant(c),
-        Op::MulC(i, c) => well_formed::is_earlier(earlier, i) & well_formed::is_constant(c),
+        Op::MulC(i, c) => {
+            well_formed::is_earlier(earlier, i)
+                & (well_formed::is_constant(c) & well_formed::is_multiplier(c))
+        }
         Op::Pow(i, m) => well_formed::is_earlier(earlier, i) & well_formed::is_exponent(m),
         Op::Inv(i) => well_formed::is_earlier(earlier, i),
     }

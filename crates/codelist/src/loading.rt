@@ -1,9 +1,9 @@
-// Loading (01's refusals 3 to 7): the conditions on the numbers of a line, its operation, and the operation lines one after another.
+// Loading (01's refusals 3 to 7, 02's refusal 15): the conditions on the numbers of a line, its operation, and the operation lines one after another.
 ghost use mathlib.Core.Path.{_≡_};
 ghost use mathlib.Core.List.{[]};
 ghost use Prim.Native.Nat.{_≤_, _-_};
 ghost use lib.ListN.{drop};
-ghost use Rattle.codelist.specs.Conditions.{isBetween, refersBack, exponentFits, constantFits};
+ghost use Rattle.codelist.specs.Conditions.{isBetween, refersBack, exponentFits, constantFits, multiplierFits};
 ghost use Rattle.codelist.specs.Views.{textLine, Fits};
 ghost use Rattle.codelist.specs.Load.{refused, opOf, checkedOf, operationLines};
 use super::Codelist;
@@ -79,6 +79,18 @@ fn constant_fits(line: LineParts) -> bool
     }
 }
 
+// 15: no line multiplies by 0.
+fn multiplier_fits(line: LineParts) -> bool
+    ensures { λ r. ⌜ r ≡ multiplierFits (textLine line) ⌝ }
+{
+    let word = line.word;
+    let c = line.right;
+    match word {
+        Word::MulC => 1 <= c.magnitude,
+        _ => true,
+    }
+}
+
 // A numeral that is no greater than 255.
 fn small(w: Numeral) -> u8
     requires { ⌜ w .magnitude ≤ 255 ⌝ }
@@ -106,7 +118,7 @@ fn op_of(line: LineParts) -> Op
     }
 }
 
-// The line at a text line, with `earlier` codelist lines before it: 5, then 6, then 7.
+// The line at a text line, with `earlier` codelist lines before it: 5, then 6, then 7, then 15.
 fn check_line(place: u64, earlier: u64, line: LineParts) -> Checked
     requires { ⌜ earlier ≤ 64 ⌝ }
     ensures { λ r. ⌜ r ≡ checkedOf place earlier (textLine line) ⌝ }
@@ -119,6 +131,9 @@ fn check_line(place: u64, earlier: u64, line: LineParts) -> Checked
     }
     if !constant_fits(line) {
         return Checked::Fault(Refusal::Constant(place));
+    }
+    if !multiplier_fits(line) {
+        return Checked::Fault(Refusal::ZeroMultiplier(place));
     }
     Checked::Fine(op_of(line))
 }

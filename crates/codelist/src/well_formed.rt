@@ -1,6 +1,6 @@
 // Well formed operations (01, "The sheet"): their references, exponents and constants.
 ghost use mathlib.Core.Path.{_≡_};
-ghost use Rattle.codelist.specs.Codelist.{isEarlier, isExponent, isConstant};
+ghost use Rattle.codelist.specs.Codelist.{isEarlier, isExponent, isConstant, isMultiplier};
 use super::LIMIT;
 use super::numerals;
 
@@ -28,4 +28,11 @@ pub(crate) fn is_constant(c: i64) -> bool
     ensures { λ r. ⌜ r ≡ isConstant c ⌝ }
 {
     (LEAST_CONSTANT <= c) & (c <= MOST_CONSTANT)
+}
+
+// Whether a constant may be multiplied by: it is not 0.
+pub(crate) fn is_multiplier(c: i64) -> bool
+    ensures { λ r. ⌜ r ≡ isMultiplier c ⌝ }
+{
+    c != 0
 }

@@ -38,7 +38,7 @@ use Rattle.engine.specs.declared.Refusal.{Refusal}
 use Rattle.engine.specs.declared.Outcome.{Outcome}
 use Rattle.engine.specs.declared.Outcome.the-variants.{Accepted, Refused}
 use Rattle.engine.specs.Engine.{numberOf, placeOf, emptyEngine, loaded, loadedOf, outcomeOf, asRating, ratedOf}
-use Rattle.engine.specs.Refusals.{RefusedWith, LoadTable, bytes, form, factors, lines, no-operation, reference, exponent, constant}
+use Rattle.engine.specs.Refusals.{RefusedWith, LoadTable, bytes, form, factors, lines, no-operation, reference, exponent, constant, multiplier}
 use Rattle.engine.specs.Refusals.{RateTable, count, range, no-codelist, divisor, overflow}
 use Rattle.engine.specs.Demands.{Demands}
 
@@ -71,6 +71,7 @@ module _ (e : Engine) where
   number (codelist.the-variants.Reference p) = is-in 4 _ (lit≤ tt)
   number (codelist.the-variants.Exponent p) = is-in 5 _ (lit≤ tt)
   number (codelist.the-variants.Constant p) = is-in 6 _ (lit≤ tt)
+  number (codelist.the-variants.ZeroMultiplier p) = is-in 7 _ (lit≤ tt)
 
   -- what the outcome says of the codelist's own
   was-accepted : (o : loading.Outcome) (c : Codelist) → loaded e o c .outcome ≡ Accepted → o ≡ loading.the-variants.Accepted
@@ -186,6 +187,7 @@ load-row s codelist.the-variants.NoOperation h = no-operation h
 load-row s (codelist.the-variants.Reference p) h = reference h
 load-row s (codelist.the-variants.Exponent p) h = exponent h
 load-row s (codelist.the-variants.Constant p) h = constant h
+load-row s (codelist.the-variants.ZeroMultiplier p) h = multiplier h
 
 rate-row : (c : Codelist) (xs : List ℤ) (r : rules.Refusal) → Rules.RefusedFor c xs r → RateTable c xs (Rate.numberOf r) (Rate.placeOf r)
 rate-row c xs rules.the-variants.NoCodelist h = no-codelist h
@@ -207,6 +209,7 @@ module _ (e : Engine) (s : List ℕ) where
   from-load-table (reference {line} h) = load-refused (codelist.the-variants.Reference line) h
   from-load-table (exponent {line} h) = load-refused (codelist.the-variants.Exponent line) h
   from-load-table (constant {line} h) = load-refused (codelist.the-variants.Constant line) h
+  from-load-table (multiplier {line} h) = load-refused (codelist.the-variants.ZeroMultiplier line) h
 
   -- loading refuses with a refusal of its own
   load-own : (r : Refusal) → loadedOf e s .outcome ≡ Refused r → (q : codelist.Refusal) × (r ≡ refusal.the-variants.Load q)

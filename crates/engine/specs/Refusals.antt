@@ -6,7 +6,7 @@ use Prim.Native.Nat.{ℕ}
 use lib.IntN.{ℤ}
 use Rattle.codelist.specs.declared.Codelist.{Codelist}
 use Rattle.codelist.specs.declared.Refusal.the-variants.{TooLong, Malformed, FactorCount, TooManyLines, NoOperation, Reference}
-use Rattle.codelist.specs.declared.Refusal.the-variants.{Exponent, Constant}
+use Rattle.codelist.specs.declared.Refusal.the-variants.{Exponent, Constant, ZeroMultiplier}
 use Rattle.codelist.specs.Refused as Load
 use Rattle.rules.specs.declared.Refusal.the-variants.{NoCodelist, RangeCount, BadRange, Divisor, Overflow}
 use Rattle.rules.specs.Refused as Rate
@@ -39,6 +39,8 @@ pub data LoadTable (s : List ℕ) : ℕ → ℕ → Type 0 where
   exponent : {line : ℕ} → Load.RefusedFor s (Exponent line) → LoadTable s 6 line
   -- 7 | constant beyond the limit | text line
   constant : {line : ℕ} → Load.RefusedFor s (Constant line) → LoadTable s 7 line
+  -- 15 | `mulc` with the constant 0 | text line (02, request 5)
+  multiplier : {line : ℕ} → Load.RefusedFor s (ZeroMultiplier line) → LoadTable s 15 line
 
 -- The two rows of that table on ranges, and "Refusals that come from the state", of rating the numbers xs against the codelist c
 pub data RateTable (c : Codelist) (xs : List ℤ) : ℕ → ℕ → Type 0 where

@@ -7,14 +7,14 @@ use rules::Limits;
 
 // Started empty; loading replaces the codelist, or, refused, keeps it. A codelist that can't be rated counts as none, as that of an empty engine:
 // one without factors or operations, with too many of them, or with an operation that is not well formed, as one that refers to a line that is
-// not earlier.
+// not earlier, or multiplies by 0.
 pub struct Engine {
     pub codelist: Codelist,
 }
 
-// 01's refusals 1 to 12.
+// 01's refusals 1 to 12, and 15 of 02.
 pub enum Refusal {
-    // 1 to 7
+    // 1 to 7 and 15
     Load(codelist::Refusal),
     // 8 to 12
     Rate(rules::Refusal),

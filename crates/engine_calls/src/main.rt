@@ -1,6 +1,9 @@
 // The engine's calls one after another (01: "A desk is started empty, a sheet is loaded from bytes, and ranges are rated against the loaded sheet.
 // Loading replaces an earlier sheet. Rating changes nothing on the desk."). Writes a line for each call: the refusal's number and place, 0 at 0 where
 // the call is accepted; and for a rating, whose limits it gives: 0 where every field of them is 0, 1 those of the square, 2 those of the sum, 3 others.
+use codelist::Codelist;
+use codelist::Entry;
+use codelist::Op;
 use engine::Engine;
 use engine::Outcome;
 use libc::STDOUT_FILENO;
@@ -168,11 +171,12 @@ fn refused_first(e: Engine) -> Engine {
     keeps(e, b"factors\t2\n")
 }
 
-// Refusals 5 to 7, and 2 once more, behind lines that would be a codelist by themselves.
+// Refusals 5 to 7 and 15, and 2 once more, behind lines that would be a codelist by themselves.
 fn refused_later(e: Engine) -> Engine {
     let e = keeps(e, b"factors\t1\ninv\t1\ninv\t9\n");
     let e = keeps(e, b"factors\t1\ninv\t1\npow\t1\t9\n");
     let e = keeps(e, b"factors\t1\ninv\t1\naddc\t1\t2000000001\n");
+    let e = keeps(e, b"factors\t1\ninv\t1\nmulc\t1\t0\n");
     keeps(e, b"factors\t1\ninv\t1\ninv\t1")
 }
 
@@ -197,6 +201,21 @@ fn inverse(e: Engine) {
     rate_one(e, 10_000, 30_000);
 }
 
+// An engine that was not loaded but written down, with `mulc→1→c`: by 0 it is one that no accepted load leaves and counts as empty, 10 before 8 and 9;
+// by one unit it is rated.
+fn written_down(c: i64) {
+    let e = Engine {
+        codelist: Codelist {
+            factors: 1,
+            count: 1,
+            ops: [Entry { op: Op::MulC(1, c) }; 64],
+        },
+    };
+    rate_one(e, 10_000, 30_000);
+    rate_one(e, 1, 0);
+    rate_two(e, 0, 10_000);
+}
+
 fn main() {
     let e = Engine::new();
     fresh(e);
@@ -206,4 +225,6 @@ fn main() {
     let e = refused_later(e);
     let e = replaced(e);
     inverse(e);
+    written_down(0);
+    written_down(1);
 }

@@ -88,7 +88,7 @@ module _ (f : ℕ → ℕ) where
       go (Add j k) w n = n
       go (Mul j k) w n = n
       go (AddC j c) w n = (n, w .1)
-      go (MulC j c) w n = (n, w .1)
+      go (MulC j c) w n = (n, w .1, w .2)
       go (Pow j m) w n = (n, w .1)
       go (Inv j) w n = n
 

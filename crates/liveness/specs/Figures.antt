@@ -1,4 +1,4 @@
--- 02, request 1: figures from the definitions themselves, by computing.
+-- 02, request 1, and request 5 where a sheet is tidied: figures from the definitions themselves, by computing.
 use mathlib.Core.List.{List, [], _∷_, _++_, map}
 use mathlib.Core.Path.{_≡_, refl}
 use Prim.Native.Nat.{ℕ}
@@ -11,8 +11,9 @@ use Rattle.exact.specs.Sqrt.{ceilSqrt, floorSqrt, rootBits}
 use Rattle.codelist.specs.declared.Codelist.{Codelist}
 use Rattle.codelist.specs.declared.Op.{Op}
 use Rattle.codelist.specs.declared.Op.the-variants.{Inv, Pow, MulC}
+use Rattle.codelist.specs.declared.Refusal.the-variants.{ZeroMultiplier}
 use Rattle.codelist.specs.Codelist.{wellFormedOps, ratable}
-use Rattle.codelist.specs.Conditions.{isBetween, refersBack, exponentFits, constantFits}
+use Rattle.codelist.specs.Conditions.{isBetween, refersBack, exponentFits, constantFits, multiplierFits}
 use Rattle.codelist.specs.Load.{empty, codelistOf, valueOf, checkedOf, operationLines, loadOf}
 use Rattle.codelist.specs.Read.{peek, rest, digit, digits, positive, numeral, field, literal, named, keyword, pair, operands}
 use Rattle.codelist.specs.Read.{operationLine, firstLine}
@@ -23,7 +24,7 @@ use Rattle.range.specs.Arithmetic.{sumOf, negOf, timesOf, endsProduct, productO
 use Rattle.range.specs.Power.{chain, upsWithin, powAbove, powBelow, powAcrossEven, powAcrossOdd, powAcross, powBySign, powOf}
 use Rattle.range.specs.Sums.{has, sumOver, validBelow, endsProducts, productsOf, largestSquare, squareSum, squaresOf, rootSum, rootOf}
 use Rattle.rules.specs.declared.Rating.{Rating}
-use Rattle.rules.specs.declared.Refusal.the-variants.{Divisor}
+use Rattle.rules.specs.declared.Refusal.the-variants.{NoCodelist, Divisor}
 use Rattle.rules.specs.Sets.{apart, isSingle, only}
 use Rattle.rules.specs.Table.{factorRow, addRow, addcRow, mulcRow, mulRow, powRow, invRow, lineOf}
 use Rattle.rules.specs.Run as Run
@@ -33,7 +34,7 @@ use Rattle.rules.specs.Figures.{_to_, slopes, limits}
 use Rattle.range.specs.Limit.{zeroRange}
 use Rattle.liveness.specs.declared.Outcome.{Outcome}
 use Rattle.liveness.specs.declared.Outcome.the-variants.{Written, Refused}
-use Rattle.liveness.specs.declared.Refusal.the-variants.{Short}
+use Rattle.liveness.specs.declared.Refusal.the-variants.{Load, Short}
 use Rattle.liveness.specs.Used.{usedBy, used}
 use Rattle.liveness.specs.Tidied as Tidied
 use Rattle.liveness.specs.Tidied.{picked, position, tidyOps, tidied}
@@ -73,6 +74,10 @@ without-line =
     (102 ∷ 97 ∷ 99 ∷ 116 ∷ 111 ∷ 114 ∷ 115 ∷ 9 ∷ 50 ∷ 10 ∷ [])
     ++ ((112 ∷ 111 ∷ 119 ∷ 9 ∷ 49 ∷ 9 ∷ 50 ∷ 10 ∷ [])
     ++ ((109 ∷ 117 ∷ 108 ∷ 99 ∷ 9 ∷ 51 ∷ 9 ∷ 53 ∷ 48 ∷ 48 ∷ 48 ∷ 10 ∷ [])))
+
+-- `factors→1`, `mulc→1→0`, `pow→1→2`
+abbrev pub dead-zero : Codelist
+dead-zero = sheetOf 1 (MulC 1 (pos 0) ∷ Pow 1 2 ∷ [])
 
 -- V 0..5000, G 0..10000, E 10000..10000
 abbrev pub half-square : Rating
@@ -122,6 +127,16 @@ figures =
       gives = Written 30;
       leaves = without-line ++ bytes 2;
     }
+    -- 02, request 5: 15 at text line 2 for a `mulc` by 0, though the line is dead, and no byte is touched
+    ∷ record {
+      sheet = dead-zero;
+      numbers = pos 0 ∷ pos 10000 ∷ [];
+      buffer = bytes 18;
+      rates = refused NoCodelist;
+      rates-tidied = limits (0 to 10000) (slopes (0 to 20000) zeroRange) 1 1 (20000 to 20000) (20000 to 20000);
+      gives = Refused (Load (ZeroMultiplier 2));
+      leaves = bytes 18;
+    }
     ∷ []
 
 -- the same, computed
@@ -144,7 +159,7 @@ unfolding rateOf rateRanges firstBad limitsOf last linesOf runOps factorLines ro
     chain upsWithin powAbove powBelow powAcrossEven powAcrossOdd powAcross powBySign powOf
     has sumOver sumBelow validBelow endsProducts productsOf largestSquare squareSum squaresOf rootSum rootOf
     floorDiv ceilDiv floorQuot ceilQuot ceilSqrt floorSqrt rootBits ones onesIn trailingZeros
-    tidyOf bufferOf loadOf operationLines checkedOf valueOf codelistOf empty isBetween refersBack exponentFits constantFits
+    tidyOf bufferOf loadOf operationLines checkedOf valueOf codelistOf empty isBetween refersBack exponentFits constantFits multiplierFits
     peek rest digit digits positive numeral field literal named keyword pair operands operationLine firstLine
     decimal numeralText numeralOf textOf
     usedBy used Tidied.kept picked position tidyOps tidied

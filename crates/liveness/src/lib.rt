@@ -14,7 +14,7 @@ mod writing; // writing.rt: the text
 
 // Why nothing is written.
 pub enum Refusal {
-    // 1 to 7: the sheet is refused.
+    // 1 to 7 and 15: the sheet is refused.
     Load(codelist::Refusal),
     // 13: the buffer is shorter than the tidied sheet.
     Short,

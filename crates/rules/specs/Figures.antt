@@ -8,7 +8,7 @@ use Rattle.algebra.specs.Sum.{sumBelow}
 use Rattle.exact.specs.Div.{floorDiv, ceilDiv, floorQuot, ceilQuot}
 use Rattle.exact.specs.Sqrt.{ceilSqrt, floorSqrt, rootBits}
 use Rattle.codelist.specs.declared.Op.{Op}
-use Rattle.codelist.specs.declared.Op.the-variants.{Add, Mul, MulC, Pow, Inv}
+use Rattle.codelist.specs.declared.Op.the-variants.{Add, Mul, AddC, MulC, Pow, Inv}
 use Rattle.codelist.specs.Codelist.{wellFormedOps, ratable}
 use Rattle.codelist.specs.Load.{codelistOf}
 use Rattle.range.specs.declared.Range.{Range}
@@ -17,7 +17,7 @@ use Rattle.range.specs.Arithmetic.{sumOf, negOf, timesOf, endsProduct, productO
 use Rattle.range.specs.Power.{chain, upsWithin, powAbove, powBelow, powAcrossEven, powAcrossOdd, powAcross, powBySign, powOf}
 use Rattle.range.specs.Sums.{has, sumOver, validBelow, endsProducts, productsOf, largestSquare, squareSum, squaresOf, rootSum, rootOf}
 use Rattle.range.specs.Star.{magnitudeOf, starRoot, endsStar, isHalf, starOf}
-use Rattle.rules.specs.declared.Refusal.the-variants.{Divisor, Overflow}
+use Rattle.rules.specs.declared.Refusal.the-variants.{NoCodelist, Divisor, Overflow}
 use Rattle.rules.specs.declared.Rating.{Rating}
 use Rattle.rules.specs.Sets.{apart, isSingle, only}
 use Rattle.rules.specs.Table.{factorRow, addRow, addcRow, mulcRow, mulRow, powRow, invRow, eight, lineOf}
@@ -219,6 +219,25 @@ figures =
       operations = Pow 2 2 ∷ Mul 1 3 ∷ [];
       ranges = 500000001 to 500000001 ∷ 0 to 0 ∷ [];
       gives = refused (Overflow 4);
+    }
+    -- 02, request 5: a codelist with `mulc→1→0` is one that no accepted load leaves, so that rating refuses it with 10: whatever uses the line, and before
+    -- 8 (no range) and 9 (2..1)
+    ∷ record { factors = 1; operations = MulC 1 (pos 0) ∷ []; ranges = 1 to 1 ∷ []; gives = refused NoCodelist }
+    ∷ record { factors = 1; operations = MulC 1 (pos 0) ∷ Pow 1 2 ∷ []; ranges = 1 to 1 ∷ []; gives = refused NoCodelist }
+    ∷ record { factors = 1; operations = MulC 1 (pos 0) ∷ []; ranges = []; gives = refused NoCodelist }
+    ∷ record { factors = 1; operations = MulC 1 (pos 0) ∷ []; ranges = 2 to 1 ∷ []; gives = refused NoCodelist }
+    -- `mulc→1→1` and `addc→1→0` on 0..0 are rated
+    ∷ record {
+      factors = 1;
+      operations = MulC 1 (pos 1) ∷ [];
+      ranges = 0 to 0 ∷ [];
+      gives = limits (0 to 0) (slopes (1 to 1) zeroRange) 1 0 zeroRange zeroRange;
+    }
+    ∷ record {
+      factors = 1;
+      operations = AddC 1 (pos 0) ∷ [];
+      ranges = 0 to 0 ∷ [];
+      gives = limits (0 to 0) (slopes (10000 to 10000) zeroRange) 1 0 zeroRange zeroRange;
     }
     ∷ []
 

@@ -1,7 +1,7 @@
 -- `is_op_well_formed` meets its contract: each arm is a case of `wellFormedOp`, the constant read back from its bits.
 use mathlib.Core.Path.{ap, _∙_}
 use borrow.Author.Needs.{needs}
-use Rattle.codelist.specs.Codelist.{isConstant}
+use Rattle.codelist.specs.Codelist.{isConstant, isMultiplier}
 use Rattle.codelist.proofs.Laws.{back}
 use Rattle.codelist.proofs.is_op_well_formed.Statement.{statement}
 use Rattle.codelist.proofs.is_op_well_formed.Tie as tie
@@ -42,6 +42,9 @@ is-earlier-requires-6 c κs = search needs
 is-constant-requires-2 : tie.Need-is-constant-requires-2
 is-constant-requires-2 c κs = search needs
 
+is-multiplier-requires : tie.Need-is-multiplier-requires
+is-multiplier-requires c κs = search needs
+
 enum-known-op-5 : tie.Need-enum-known-op-5
 enum-known-op-5 c = search needs
 
@@ -75,12 +78,13 @@ returns-3 c =
 
 returns-4 : tie.Need-returns-4
 returns-4 c =
-    let o = c .before .before .before in
+    let o = c .before .before .before .before in
+    let z = back (o .op4 .given .0 .1 .0) (c .before .before .before .known-told4 .given .1 .0 .1) in
     simp (
       o .op4 .given .1,
-      c .before .is-earlier6 .ensures,
-      c .is-constant2 .ensures
-          ∙ ap isConstant (back (o .op4 .given .0 .1 .0) (c .before .before .known-told4 .given .1 .0 .1)),
+      c .before .before .is-earlier6 .ensures,
+      c .before .is-constant2 .ensures ∙ ap isConstant z,
+      c .is-multiplier .ensures ∙ ap isMultiplier z,
     )
 
 returns-5 : tie.Need-returns-5
@@ -105,6 +109,7 @@ is-op-well-formed-spec =
     enum-known-op-4
     is-earlier-requires-6
     is-constant-requires-2
+    is-multiplier-requires
     enum-known-op-5
     is-earlier-requires-7
     is-exponent-requires

@@ -44,20 +44,13 @@ returns-3 c =
       sym (c .before .constant-fits .ensures) ∙ not-true _ (c .if3 .taken),
     )
 
-op-of-requires : tie.Need-op-of-requires
-op-of-requires c κs =
-    let j = c .before .before in
-    let i = j .before .before in
-    let a = i .before .before in
-    fits (a .args .earlier) (textLine (a .args .line)) (a .pre)
-    (sym (i .before .refers-back .ensures) ∙ not-false _ (i .if1 .left))
-    (sym (j .before .exponent-fits .ensures) ∙ not-false _ (j .if2 .left))
-    (sym (c .before .constant-fits .ensures) ∙ not-false _ (c .if3 .left))
+multiplier-fits-requires : tie.Need-multiplier-fits-requires
+multiplier-fits-requires c κs = search needs
 
 returns-4 : tie.Need-returns-4
 unfolding checkedOf
 returns-4 c =
-    let k = c .before in
+    let k = c .before .before in
     let j = k .before .before in
     let i = j .before .before in
     simp (
@@ -65,6 +58,33 @@ returns-4 c =
       sym (j .before .exponent-fits .ensures)
           ∙ not-false _ (j .if2 .left),
       sym (k .before .constant-fits .ensures) ∙ not-false _ (k .if3 .left),
+      sym (c .before .multiplier-fits .ensures) ∙ not-true _ (c .if4 .taken),
+    )
+
+op-of-requires : tie.Need-op-of-requires
+op-of-requires c κs =
+    let k = c .before .before in
+    let j = k .before .before in
+    let i = j .before .before in
+    let a = i .before .before in
+    fits (a .args .earlier) (textLine (a .args .line)) (a .pre)
+    (sym (i .before .refers-back .ensures) ∙ not-false _ (i .if1 .left))
+    (sym (j .before .exponent-fits .ensures) ∙ not-false _ (j .if2 .left))
+    (sym (k .before .constant-fits .ensures) ∙ not-false _ (k .if3 .left))
+
+returns-5 : tie.Need-returns-5
+unfolding checkedOf
+returns-5 c =
+    let m = c .before in
+    let k = m .before .before in
+    let j = k .before .before in
+    let i = j .before .before in
+    simp (
+      sym (i .before .refers-back .ensures) ∙ not-false _ (i .if1 .left),
+      sym (j .before .exponent-fits .ensures)
+          ∙ not-false _ (j .if2 .left),
+      sym (k .before .constant-fits .ensures) ∙ not-false _ (k .if3 .left),
+      sym (m .before .multiplier-fits .ensures) ∙ not-false _ (m .if4 .left),
     )
     (ap Fine (c .op-of .ensures))
 
@@ -78,5 +98,7 @@ check-line-spec =
     returns-2
     constant-fits-requires
     returns-3
+    multiplier-fits-requires
+    returns-4
     op-of-requires
-    returns-4)
+    returns-5)
