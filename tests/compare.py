@@ -30,7 +30,9 @@ from pathlib import Path
 
 import dead_lines
 import fleets
-from errors import ERRORS, SPECIAL_ERRORS, SPECIAL_STEPS, STEPS, CasesNotApplied, SquaresRoundedEachInCross, SquaresRoundedEachInSq, uncounted
+from errors import (
+    ERRORS, LOADING_ERRORS, SPECIAL_ERRORS, SPECIAL_STEPS, STEPS, ZERO_FIELD, CasesNotApplied, SquaresRoundedEachInCross, SquaresRoundedEachInSq,
+    uncounted)
 from figures import FIGURES, REPORTED, TIDIED
 from fleet_page import FleetComparison
 from generate import box_text, case
@@ -61,7 +63,7 @@ RULES = [
     "4: codelist line beyond the 64th", "4: no operation line",
     "5: reference below 1", "5: reference not earlier",
     "6: exponent below 2", "6: exponent above 8",
-    "7: constant beyond the limit",
+    "7: constant beyond the limit", "15: multiplication by 0",
     "8: no box", "8: form", "8: number",
     "9: low end above high end", "9: low end beyond the limit", "9: high end beyond the limit",
     "11: inverse of a range with 0",
@@ -94,7 +96,7 @@ RULES = [
 
 class Comparison(Tally):
     rules = RULES + ORDERS
-    errors = ERRORS + SPECIAL_ERRORS
+    errors = ERRORS + SPECIAL_ERRORS + LOADING_ERRORS
 
     def __init__(self, binary):
         super().__init__()
@@ -130,6 +132,8 @@ class Comparison(Tally):
         if comes_to_lines(outcome):
             self.try_errors(text, ours)
             complaint += self.rounding_complaint(text, outcome) + self.special_complaint(text, outcome)
+        if ZERO_FIELD.search(text):
+            self.catch_errors(ours, lambda wrong: printed(run(text, wrong.rules, loading=wrong).answer), LOADING_ERRORS)
         self.judge(name, text, complaint)
         return outcome
 
@@ -198,7 +202,7 @@ class Comparison(Tally):
         for step in self.passing:
             if printed(run(text, uncounted(step)).answer) != ours:
                 self.note(f"12 by {step} alone")
-        self.catch_errors(ours, lambda wrong: printed(run(text, wrong).answer), self.errors if self.cases else ERRORS)
+        self.catch_errors(ours, lambda wrong: printed(run(text, wrong).answer), ERRORS + SPECIAL_ERRORS if self.cases else ERRORS)
 
     def add(self, other):
         super().add(other)

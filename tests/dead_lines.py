@@ -1,10 +1,9 @@
 """Random inputs for `rate` whose sheets have dead lines put in: operation lines that the last line does not use."""
-from generate import blind, grown, input_text, overreaching, scaled, some_operation, sums
+from generate import input_text, loaded, some_operation
 from reference.outcome import Refused
-from reference.ranges import LIMIT, Range
+from reference.ranges import LIMIT, UNIT, Range
 from reference.rating import rate
-from reference.sheet import MOST_LINES, REFERENCES, Operation, Sheet
-from reference.text import run
+from reference.sheet import MOST_LINES, REFERENCES, Operation, Sheet, load, sheet_text
 from reference.tidy import Tidying, last_line, operation_at
 
 USED = Tidying().used
@@ -41,13 +40,29 @@ def with_some_line(rng, sheet):
 
 
 def with_refused_line(rng, sheet):
-    """A dead line that is always refused, of a line times 0: its inverse (11), or more than the limit added to it in two steps (12)."""
+    """Dead lines of which one is always refused: a line less itself, whose range has 0 in it, and its inverse (11), or more than the limit added to
+    it in two steps (12)."""
     place = some_place(rng, sheet)
-    sheet = inserted(sheet, place, "mulc", rng.randint(1, place - 1), 0)
+    i = rng.randint(1, place - 1)
+    sheet = inserted(inserted(sheet, place, "mulc", i, -UNIT), place + 1, "add", i, place)
     if rng.random() < 0.5:
-        return inserted(sheet, place + 1, "inv", place)
-    sheet = inserted(sheet, place + 1, "addc", place, LIMIT)
-    return inserted(sheet, place + 2, "addc", place + 1, rng.randint(1, LIMIT))
+        return inserted(sheet, place + 2, "inv", place + 1)
+    sheet = inserted(sheet, place + 2, "addc", place + 1, LIMIT)
+    return inserted(sheet, place + 3, "addc", place + 2, rng.randint(1, LIMIT))
+
+
+def with_unloaded_line(rng, sheet):
+    """A dead line that multiplies by 0: loading refuses it, used or not."""
+    place = some_place(rng, sheet)
+    return inserted(sheet, place, "mulc", rng.randint(1, place - 1), 0)
+
+
+def loads(sheet):
+    try:
+        load(sheet_text(sheet))
+    except Refused:
+        return False
+    return True
 
 
 def refused_at_dead_line(sheet, ends):
@@ -63,7 +78,7 @@ def harmless(rng, sheet, ends):
     """Dead lines that are all accepted: the rating comes to what it came to without them."""
     for _ in range(rng.choice((1, 1, 2, 3, 5, 9))):
         longer = with_some_line(rng, sheet)
-        if last_line(longer) <= MOST_LINES and not refused_at_dead_line(longer, ends):
+        if loads(longer) and not refused_at_dead_line(longer, ends):
             sheet = longer
     return sheet
 
@@ -73,22 +88,22 @@ def refused(rng, sheet, ends):
     sheet = harmless(rng, sheet, ends) if rng.random() < 0.5 else sheet
     tried = [with_some_line(rng, sheet) for _ in range(TRIES)] + [with_refused_line(rng, sheet)]
     for longer in tried:
-        if last_line(longer) <= MOST_LINES and refused_at_dead_line(longer, ends):
+        if loads(longer) and refused_at_dead_line(longer, ends):
             return longer
     return sheet
 
 
 def unlooked(rng, sheet, ends):
-    """Dead lines up to the most lines there may be, and nothing looked at."""
+    """Dead lines up to the most lines there may be, and nothing looked at; now and then one of them is for loading to refuse."""
     for _ in range(rng.randint(1, 12)):
         if last_line(sheet) < MOST_LINES:
-            sheet = with_some_line(rng, sheet)
+            sheet = with_unloaded_line(rng, sheet) if rng.random() < 0.02 else with_some_line(rng, sheet)
     return sheet
 
 
 def case(rng):
     """A kind's name and an input of it."""
-    given = run(rng.choices((grown, sums, overreaching, scaled, blind), (4, 2, 5, 2, 1))[0](rng))
+    given = loaded(rng, (4, 2, 5, 2, 1))
     kind = rng.choices((harmless, refused, unlooked), (5, 3, 2))[0]
     ranges = [Range(*given.ends[k:k + 2]) for k in range(0, len(given.ends), 2)]
     return f"dead lines, {kind.__name__}", input_text(kind(rng, given.sheet, given.ends), ranges)

@@ -21,7 +21,7 @@ ROOT = Path(__file__).resolve().parent.parent
 OPERATIONS = ("add", "mul", "addc", "mulc", "pow", "inv")
 PROGRAMS = {"prints:": "rate", "tidied:": "tidy", "reported:": "fleet"}
 # no program prints 10, since each loads a sheet first, nor 13, since `tidy` has room for every sheet
-REFUSALS = {"rate": [number for number in range(1, 13) if number != 10], "fleet": [14]}
+REFUSALS = {"rate": [*range(1, 10), 11, 12, 15], "fleet": [14]}
 
 
 def written(lines):

@@ -2,8 +2,9 @@
 
 Of rating, the first five are the errors that 01 names at its end, then come the results "From the buyer" wants turned down, then other
 readings of sentences that decide a result, near misses of 02's request 2, the sum of squares, and of its request 4: of which products are
-special cases, of their bends, and of what is refused. Those of tidying (request 1) are near misses of what is used, what is kept and how it is
-renumbered; those of the fleet page (request 3), of what a boat is, of what is counted, summed and compared, and of which lists are taken.
+special cases, of their bends, and of what is refused. Those of loading are near misses of request 5: of which lines are refused with 15, of its
+number and place, and of when it comes. Those of tidying (request 1) are near misses of what is used, what is kept and how it is renumbered; those
+of the fleet page (request 3), of what a boat is, of what is counted, summed and compared, and of which lists are taken.
 """
 import re
 from math import isqrt
@@ -12,7 +13,7 @@ from reference.fleet import MOST_INPUT, RECORD, Fleet, rated
 from reference.outcome import Refusal, Refused, refuse
 from reference.ranges import LIMIT, UNIT, ZERO, PastLimit, Range
 from reference.rating import SPECIAL_LIMIT, Result, Rules
-from reference.sheet import REFERENCES, Operation, text_lines
+from reference.sheet import REFERENCES, Loading, Operation, load, sheet_text, text_lines
 from reference.text import MOST_INPUT as MOST_RATED
 from reference.tidy import Tidying, last_line, operation_at
 
@@ -488,6 +489,183 @@ def uncounted(step):
     return type("Uncounted", (Rules,), {"uncounted": step})
 
 
+# ---- loading: multiplication by 0
+
+class WrongLoading(Loading):
+    rules = Rules  # those of the rating behind it
+
+
+class TimesZeroTaken(WrongLoading):
+    """`mulc` by 0 taken (01's rule before request 5)."""
+    def check_multiplier(self, operation, codelist_line, place):
+        pass
+
+
+class PlusZeroRefused(WrongLoading):
+    """`addc` by 0 refused, too."""
+    def check_multiplier(self, operation, codelist_line, place):
+        super().check_multiplier(operation._replace(name=operation.name.replace("addc", "mulc")), codelist_line, place)
+
+
+class PowerZeroRefused(WrongLoading):
+    """The exponent 0 refused with 15."""
+    def check_exponent(self, operation, codelist_line, place):
+        self.check_multiplier(operation._replace(name=operation.name.replace("pow", "mulc")), codelist_line, place)
+        super().check_exponent(operation, codelist_line, place)
+
+
+class FractionsRefused(WrongLoading):
+    """A constant of less than 1, which is 10,000 units, taken for 0."""
+    def check_multiplier(self, operation, codelist_line, place):
+        super().check_multiplier(operation._replace(numbers=tuple(abs(number) // UNIT for number in operation.numbers)), codelist_line, place)
+
+
+class NegativesRefused(WrongLoading):
+    """A constant below 0 refused, too."""
+    def check_multiplier(self, operation, codelist_line, place):
+        super().check_multiplier(operation._replace(numbers=tuple(max(number, 0) for number in operation.numbers)), codelist_line, place)
+
+
+class MinusZeroTaken(WrongLoading):
+    """`-0` taken for 0, and refused with 15."""
+    def sheet(self, text):
+        return super().sheet(re.sub(rb"^(mulc\t[^\t\n]*\t)-0$", rb"\g<1>0", text, flags=re.MULTILINE))
+
+
+class SomeTimesZero(WrongLoading):
+    """Only some lines refused with 15, of a sheet that is refused for nothing else."""
+    def found(self, sheet, line):
+        raise NotImplementedError
+
+    def sheet(self, text):
+        try:
+            sheet = TimesZeroTaken().sheet(text)
+        except Refused:
+            return super().sheet(text)
+        for line, operation in enumerate(sheet.operations, sheet.factors + 1):
+            if self.found(sheet, line):
+                self.check_multiplier(operation, line, line - sheet.factors + 1)
+        return sheet
+
+
+class TimesZeroInUse(SomeTimesZero):
+    """Only a line refused with 15 that the last line uses."""
+    def found(self, sheet, line):
+        return line in Tidying().used(sheet)
+
+
+class TimesZeroAtTheEnd(SomeTimesZero):
+    """Only the last line refused with 15."""
+    def found(self, sheet, line):
+        return line == last_line(sheet)
+
+
+class FactorTimesZero(WrongLoading):
+    """Only a factor times 0 refused, and no other line's."""
+    def check_multiplier(self, operation, codelist_line, place):
+        if operation.numbers[0] <= codelist_line - place + 1:
+            super().check_multiplier(operation, codelist_line, place)
+
+
+class LineTimesZero(WrongLoading):
+    """Only an operation line times 0 refused, and no factor's."""
+    def check_multiplier(self, operation, codelist_line, place):
+        if operation.numbers[0] > codelist_line - place + 1:
+            super().check_multiplier(operation, codelist_line, place)
+
+
+# ---- loading: number and place of 15
+
+class AnotherRefusal(WrongLoading):
+    """Something else in the place of 15 and its text line."""
+    def given(self, codelist_line, place):
+        raise NotImplementedError
+
+    def check_multiplier(self, operation, codelist_line, place):
+        try:
+            super().check_multiplier(operation, codelist_line, place)
+        except Refused:
+            refuse(*self.given(codelist_line, place))
+
+
+class SevenForFifteen(AnotherRefusal):
+    """7 in the place of 15."""
+    def given(self, codelist_line, place):
+        return 7, place
+
+
+class FifteenAtZero(AnotherRefusal):
+    """15 with place 0."""
+    def given(self, codelist_line, place):
+        return 15, 0
+
+
+class FifteenInCodelist(AnotherRefusal):
+    """15 placed at the codelist line and not at the text line."""
+    def given(self, codelist_line, place):
+        return 15, codelist_line
+
+
+# ---- loading: when 15 comes
+
+class FifteenBeforeLastByte(WrongLoading):
+    """15 ahead of 2 for the missing byte 10."""
+    def sheet(self, text):
+        return super().sheet(re.sub(rb"(\nmulc\t[^\t\n]*\t0)\Z", rb"\1\n", text))
+
+
+class FifteenBeforeForm(WrongLoading):
+    """15 ahead of 2 for a field too many."""
+    def sheet(self, text):
+        return super().sheet(re.sub(rb"^(mulc\t[^\t\n]*\t0)\t[^\n]*$", rb"\1", text, flags=re.MULTILINE))
+
+
+class FifteenBeforeFour(WrongLoading):
+    """15 ahead of 4."""
+    def check_number(self, operation, codelist_line, place):
+        self.check_multiplier(operation, codelist_line, place)
+        super().check_number(operation, codelist_line, place)
+
+
+class FifteenBeforeFive(WrongLoading):
+    """15 ahead of 5, and behind 4."""
+    def check_references(self, operation, codelist_line, place):
+        self.check_multiplier(operation, codelist_line, place)
+        super().check_references(operation, codelist_line, place)
+
+
+class FifteenAfterLines(WrongLoading):
+    """15 looked for once every line is read: whatever a later line is refused for comes first."""
+    def sheet(self, text):
+        sheet = TimesZeroTaken().sheet(text)
+        for line, operation in enumerate(sheet.operations, sheet.factors + 1):
+            self.check_multiplier(operation, line, line - sheet.factors + 1)
+        return sheet
+
+
+class TimesZeroInRating(Rules):
+    """15 given by rating, at its text line."""
+    def line(self, operation, lines):
+        Loading().check_multiplier(operation, len(lines) + 1, len(lines) - self.factors + 2)
+        return super().line(operation, lines)
+
+
+class FifteenInRating(TimesZeroTaken):
+    """15 given by rating and not by loading: 8, 9 and whatever an earlier line is refused for come first."""
+    rules = TimesZeroInRating
+
+
+# A constant or an exponent that is written 0 or -0. The wrong rules below are tried where there is one: elsewhere no more than two of them can differ
+# from the right ones, those that refuse other constants, too.
+ZERO_FIELD = re.compile(rb"^(?:addc|mulc|pow)\t[^\t\n]*\t-?0(?:\t|$)", re.MULTILINE)
+
+LOADING_ERRORS = [
+    TimesZeroTaken, PlusZeroRefused, PowerZeroRefused, FractionsRefused, NegativesRefused, MinusZeroTaken, TimesZeroInUse, TimesZeroAtTheEnd,
+    FactorTimesZero, LineTimesZero, SevenForFifteen, FifteenAtZero, FifteenInCodelist, FifteenBeforeLastByte, FifteenBeforeForm, FifteenBeforeFour,
+    FifteenBeforeFive, FifteenAfterLines, FifteenInRating,
+]
+
+
 # ---- tidying
 
 class SecondOfProductUnused(Tidying):
@@ -509,14 +687,6 @@ class ExponentUsed(Tidying):
     def references(self, sheet, line):
         if line > sheet.factors and operation_at(sheet, line).name == "pow":
             return [number for number in operation_at(sheet, line).numbers if number < line]
-        return super().references(sheet, line)
-
-
-class TimesZeroUnused(Tidying):
-    """A line that is multiplied by 0 taken for unused."""
-    def references(self, sheet, line):
-        if line > sheet.factors and operation_at(sheet, line).name == "mulc" and operation_at(sheet, line).numbers[1] == 0:
-            return ()
         return super().references(sheet, line)
 
 
@@ -542,18 +712,32 @@ class NamedAtAll(Tidying):
         return {last_line(sheet)} | {i for line in range(1, last_line(sheet) + 1) for i in self.references(sheet, line)}
 
 
-class EqualLinesMerged(Tidying):
-    """A used line dropped where an equal line precedes it."""
-    def tidied(self, sheet):
-        def first(i):
-            if i <= sheet.factors:
-                return i
-            return sheet.factors + 1 + sheet.operations.index(operation_at(sheet, i))
+class OperationsReplaced(Tidying):
+    """A used line dropped, and another one used in its place."""
+    def replaced(self, sheet, line):
+        raise NotImplementedError
 
-        def merged(name, numbers):
+    def tidied(self, sheet):
+        def replaced(i):
+            return i if i <= sheet.factors else self.replaced(sheet, i)
+
+        def changed(name, numbers):
             count = REFERENCES[name]
-            return Operation(name, tuple(map(first, numbers[:count])) + numbers[count:])
-        return super().tidied(sheet._replace(operations=tuple(merged(*operation) for operation in sheet.operations)))
+            return Operation(name, tuple(map(replaced, numbers[:count])) + numbers[count:])
+        return super().tidied(sheet._replace(operations=tuple(changed(*operation) for operation in sheet.operations)))
+
+
+class EqualLinesMerged(OperationsReplaced):
+    """A used line dropped where an equal line precedes it."""
+    def replaced(self, sheet, line):
+        return sheet.factors + 1 + sheet.operations.index(operation_at(sheet, line))
+
+
+class PlusZeroDropped(OperationsReplaced):
+    """A used line dropped where it adds 0 to another."""
+    def replaced(self, sheet, line):
+        name, numbers = operation_at(sheet, line)
+        return numbers[0] if name == "addc" and numbers[1] == 0 else line
 
 
 class InversesKept(Tidying):
@@ -619,7 +803,7 @@ class ReferencesSorted(Tidying):
 
 
 TIDY_ERRORS = [
-    SecondOfProductUnused, SecondOfSumUnused, ExponentUsed, TimesZeroUnused, DirectUseOnly, TwoStepsOnly, NamedAtAll, EqualLinesMerged,
+    SecondOfProductUnused, SecondOfSumUnused, ExponentUsed, DirectUseOnly, TwoStepsOnly, NamedAtAll, EqualLinesMerged, PlusZeroDropped,
     InversesKept, LastFactorDropped, UnusedFactorsDropped, OldNumbers, SecondLeftOld, LessAllDropped, ExponentRenumbered, ReferencesSorted,
 ]
 
@@ -900,10 +1084,33 @@ class LooseNumerals(Fleet):
         return super().boats(None if text is None else re.sub(loose, lambda found: b"%d" % max(-most, min(most, int(found[0]))), text))
 
 
+# ---- the fleet page: multiplication by 0
+
+class TimesZeroReported(Fleet):
+    """A page of a sheet with `mulc` by 0."""
+    loading = TimesZeroTaken
+
+
+class TimesZeroUnusedReported(Fleet):
+    """A page of a sheet with `mulc` by 0 in lines that the last one does not use."""
+    loading = TimesZeroInUse
+
+
+class ListBeforeTimesZero(Fleet):
+    """15 given once the list is read: 14 ahead of it."""
+    loading = TimesZeroTaken
+
+    def report(self, sheet, boats):
+        report = super().report(sheet, boats)
+        load(sheet_text(sheet))
+        return report
+
+
 FLEET_ERRORS = [
     EightForN, LastNumbers, NumbersInPairs, RecordsOfN, RestChecked, LimitRefused, OneBeyondTaken,
     RefusedAccepted, RangeForLimit, RangeForDivisor, DivisorForLimit, RefusalOfThePage, EndsLeftOver, RefusedSummed, HighEndsTwice, SumsOf32Bits,
     LastGreatest, PositionFromZero, PositionAmongAccepted, GreatestAboveZero, RefusedGreatest, GreatestLow,
     ThousandRefused, ThousandAndOneTaken, FirstThousand, EmptyListRefused, NoLineForEmptyList, ListBeforeSheet, BytesBeforeSheet, TooManyBytesOne,
     BytesOfRate, LastLineParts, BlankLinesSkipped, LastByteForgiven, Byte13Forgiven, UnfinishedDropped, NinthDropped, LooseNumerals,
+    TimesZeroReported, TimesZeroUnusedReported, ListBeforeTimesZero,
 ]

@@ -193,10 +193,45 @@ SPECIAL = [
 ]
 
 
+# 02, request 5: `mulc` by 0 is refused with 15, at its text line.
+TIMES_ZERO = [
+    ("a factor times 0", "factors 1;mulc 1 0;box;1 2;", "refused 15 2;"),
+    ("a line times 0", "factors 2;add 1 2;mulc 3 0;box;1 2;1 2;", "refused 15 3;"),
+    ("times 0 in a line that is not used", "factors 2;mulc 2 0;addc 1 0;box;1 2;1 2;", "refused 15 2;"),
+    ("times 0 in a line that only an unused one uses", "factors 2;inv 2;mulc 3 0;inv 4;addc 1 0;box;1 2;1 2;", "refused 15 3;"),
+    ("times 0 twice", "factors 2;addc 1 0;mulc 1 0;mulc 2 0;box;1 2;1 2;", "refused 15 3;"),
+    ("a reference before the multiplier", "factors 1;mulc 2 0;", "refused 5 2;"),
+    ("reference 0 before multiplier 0", "factors 1;mulc 0 0;", "refused 5 2;"),
+    ("times minus zero", "factors 1;mulc 1 -0;box;1 2;", "refused 2 2;"),
+    ("times 0 with a zero in front", "factors 1;mulc 1 00;box;1 2;", "refused 2 2;"),
+    ("times 0 without byte 10", "factors 1;mulc 1 0", "refused 2 2;"),
+    ("times 0 and a field too many", "factors 1;mulc 1 0 1;box;1 2;", "refused 2 2;"),
+    ("times 0 in line 64", lines("factors 1;", 63, "addc 1 0;") + "mulc 1 0;box;7 9;", "refused 15 64;"),
+    ("times 0 in line 65", lines("factors 1;", 64, "addc 1 0;") + "mulc 1 0;box;7 9;", "refused 4 65;"),
+    ("times 0 in line 64 with 8 factors", lines("factors 8;", 56, "addc 1 0;") + "mulc 1 0;box;", "refused 15 57;"),
+    ("times 0 in line 65 with 8 factors", lines("factors 8;", 57, "addc 1 0;") + "mulc 1 0;box;", "refused 4 58;"),
+    ("times 0 before a line of another form", "factors 2;mulc 1 0;x;box;1 2;1 2;", "refused 15 2;"),
+    ("times 0 before a reference that is not earlier", "factors 2;mulc 1 0;inv 9;box;1 2;1 2;", "refused 15 2;"),
+    ("times 0 before a last line without byte 10", "factors 2;mulc 1 0;inv 1", "refused 15 2;"),
+    ("times 0 behind a constant past the limit", "factors 2;addc 1 2000000001;mulc 1 0;box;1 2;1 2;", "refused 7 2;"),
+    ("times 0 behind an exponent 0", "factors 2;pow 1 0;mulc 1 0;box;1 2;1 2;", "refused 6 2;"),
+    ("times 0, and no box", "factors 1;mulc 1 0;", "refused 15 2;"),
+    ("times 0, and a box line of another form", "factors 1;mulc 1 0;box;x;", "refused 15 2;"),
+    ("times 0, and a low end above its high end", "factors 1;mulc 1 0;box;2 1;", "refused 15 2;"),
+    ("times 0 behind the inverse of a range with 0", "factors 1;inv 1;mulc 1 0;box;0 1;", "refused 15 3;"),
+    ("times one unit", "factors 1;mulc 1 1;addc 2 0;box;10000 20001;", "value 1 3;slope 1 1 1;depends 1;bent;bend 0 0;full 0 0;"),
+    ("times minus one unit", "factors 1;mulc 1 -1;addc 2 0;box;10000 20001;", "value -3 -1;slope 1 -1 -1;depends 1;bent;bend 0 0;full 0 0;"),
+    ("0 added", "factors 1;addc 1 0;box;7 9;", FACTOR_KEPT),
+    ("a factor that is 0", "factors 2;mulc 1 10000;mul 2 3;box;0 0;7 9;",
+     "value 0 0;slope 1 7 9;slope 2 0 0;depends 1 2;bent 1 2;bend -10000 10000;full -10000 10000;"),
+]
+
+
 def operand(first, v, g, e):
-    """Lines from `first` on for v + g x + (e/2) x^2, where line 2 is x^2 and x is 0: its V, G and E are v, g and e."""
-    numbers = (round(e * 5000), round(g * 10000), first, first + 1, first + 2, round(v * 10000))
-    return "mulc 2 {};mulc 1 {};add {} {};addc {} {};".format(*numbers)
+    """Lines from `first` on for v + g x + (e/2) x^2, where line 2 is x^2 and x is 0: its V, G and E are v, g and e. In the place of a term times 0
+    stands x^3, of which all three are 0."""
+    squared, plain = (f"mulc {line} {number};" if number else "pow 1 3;" for line, number in ((2, round(e * 5000)), (1, round(g * 10000))))
+    return f"{squared}{plain}add {first} {first + 1};addc {first + 2} {round(v * 10000)};"
 
 
 def one(last, x):
@@ -250,7 +285,9 @@ ALONE = [
     ("inv.Sq.sum", "factors 2;add 1 2;mulc 3 4000000;addc 4 100000000;inv 5;box;0 0;0 0;", "refused 12 6;"),
 ]
 
-FIGURES = [(name, text(given), text(expected)) for name, given, expected in STARRED + PRINTED + EDGES + READINGS + SQUARES + SPECIAL + ALONE]
+FIGURES = [
+    (name, text(given), text(expected))
+    for name, given, expected in STARRED + PRINTED + EDGES + READINGS + SQUARES + SPECIAL + TIMES_ZERO + ALONE]
 
 LONGEST = "factors 1;" + "".join(f"addc {k} -2000000000;" for k in range(1, 64))
 
@@ -268,7 +305,9 @@ TIDYING = [
      "factors 1;pow 1 4;addc 2 4;mulc 3 4;"),
     ("unused factors kept, the last one too", "factors 8;inv 8;addc 3 0;box;1 1;1 1;1 1;1 1;1 1;1 1;1 1;1 1;", "factors 8;addc 3 0;"),
     ("equal lines kept, if both are used", "factors 1;inv 1;inv 1;inv 1;add 3 4;box;1 2;", "factors 1;inv 1;inv 1;add 2 3;"),
-    ("used though it is multiplied by 0", "factors 1;pow 1 2;inv 1;mulc 2 0;box;1 2;", "factors 1;pow 1 2;mulc 2 0;"),
+    ("used though it is multiplied by a range of 0", "factors 2;pow 1 2;inv 1;mul 3 2;box;1 2;0 0;", "factors 2;pow 1 2;mul 3 2;"),
+    ("used though it is taken away again", "factors 1;pow 1 2;inv 1;mulc 2 -10000;add 2 4;box;1 2;", "factors 1;pow 1 2;mulc 2 -10000;add 2 3;"),
+    ("used though it adds 0", "factors 1;inv 1;addc 1 0;pow 3 2;box;1 2;", "factors 1;addc 1 0;pow 2 2;"),
     ("a dead line refused with 11", "factors 1;inv 1;addc 1 0;box;0 10000;", "factors 1;addc 1 0;"),
     ("a used line refused with 11", "factors 1;pow 1 2;inv 1;addc 3 0;box;0 10000;", "factors 1;inv 1;addc 2 0;"),
     ("a dead line refused past 1,000,000,000", "factors 2;pow 1 2;mul 3 2;addc 1 0;box;0 0;500000001 500000001;", "factors 2;addc 1 0;"),
@@ -280,6 +319,8 @@ TIDYING = [
     ("the longest sheet", LONGEST + "box;0 0;", LONGEST),
     ("refused by loading, in a dead line", "factors 1;inv 1;addc 2 2000000001;addc 1 0;box;1 1;", "refused 7 3;"),
     ("refused for its last line", "factors 1;inv 1;addc 1 0", "refused 2 3;"),
+    ("times 0 in a used line", "factors 1;pow 1 2;inv 1;mulc 2 0;box;1 2;", "refused 15 4;"),
+    ("times 0 in a dead line", "factors 1;pow 1 2;mulc 1 0;addc 2 1;box;1 2;", "refused 15 3;"),
 ]
 
 TIDIED = [(name, text(given), text(expected)) for name, given, expected in TIDYING]
@@ -336,6 +377,10 @@ FLEET = [
     ("empty input", "", "refused 2 1;"),
     ("no operation", "factors 2;boats;" + boats(1), "refused 4 1;"),
     ("loading ahead of the boats", "factors 1;inv 7;boats;x;", "refused 5 2;"),
+    ("times 0", "factors 2;addc 2 0;mulc 1 0;boats;" + boats("7 8"), "refused 15 3;"),
+    ("times 0 in a dead line", "factors 2;mulc 2 0;addc 1 0;boats;" + boats("7 8"), "refused 15 2;"),
+    ("times 0 ahead of the boats", "factors 1;mulc 1 0;boats;x;", "refused 15 2;"),
+    ("times 0, and no boats", "factors 1;mulc 1 0;boats;", "refused 15 2;"),
     ("sheet of 4,096 bytes", "x" * 4095 + ";boats;" + boats(1), "refused 2 1;"),
     ("sheet of 4,097 bytes", "x" * 4096 + ";boats;" + boats(1), "refused 1 0;"),
     ("the longest sheet", LONGEST + "boats;" + boats(0), page(1, 0, 0, 0, 1, 0, 0, 0)),

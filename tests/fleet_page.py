@@ -6,7 +6,7 @@ import re
 from functools import lru_cache
 
 from errors import FLEET_ERRORS
-from fleets import BAD_FIELDS, MISSPELT, UNENDED, WAYS
+from fleets import BAD_FIELDS, BROKEN, MISSPELT, UNENDED, WAYS
 from reference.fleet import MOST_BOATS, MOST_INPUT, RECORD, Fleet, Report, fleet_printed, rated
 from reference.outcome import Refusal
 from reference.ranges import LIMIT
@@ -21,8 +21,8 @@ FAULTS = ("form", "number", "bytes", "no line")
 NO_BYTE_10 = "`boats` without its byte 10"
 
 LOADING_RULES = [
-    *(f"fleet: refused by loading, {number}" for number in range(1, 8)),
-    *(f"fleet: {number} over 14 ({fault})" for number in range(1, 8) for fault in FAULTS),
+    *(f"fleet: refused by loading, {number}" for number in BROKEN),
+    *(f"fleet: {number} over 14 ({fault})" for number in BROKEN for fault in FAULTS),
     *(f"fleet: 2 for {name} in the place of `boats`" for name in (*MISSPELT, NO_BYTE_10)),
 ]
 

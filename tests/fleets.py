@@ -2,12 +2,12 @@
 
 Two sorts: random ones (`case`), and one for each way in which a list can be refused or come to an edge (`cases`).
 """
-from generate import Growing, blind, damaged, grown, long, magnitude, misplaced, overreaching, scaled, sums
-from orders import BEYOND, CONSTANT, COUNT, EXPONENT, FORM, NONE, REFERENCE, SHEET, broken
+from generate import Growing, damaged, loaded, long, magnitude, misplaced
+from orders import BEYOND, CONSTANT, COUNT, EXPONENT, FORM, MULTIPLIER, NONE, REFERENCE, SHEET, broken
 from reference.fleet import MOST_BOATS, MOST_INPUT, RECORD
 from reference.ranges import LIMIT, UNIT, Range
 from reference.sheet import MOST_FACTORS, MOST_LINES, Operation, Sheet, sheet_text
-from reference.text import parted, run
+from reference.text import parted
 
 PARTING = b"boats\n"
 KEPT = Sheet(1, (Operation("addc", (1, 0)),))  # the premium is the factor itself
@@ -64,7 +64,7 @@ def plain(rng):
 
 def mixed(rng):
     """Boats inside and outside the ranges that a sheet was made for."""
-    given = run(rng.choices((grown, sums, overreaching, scaled, blind), (6, 4, 2, 2, 1))[0](rng))
+    given = loaded(rng, (6, 4, 2, 2, 1))
     ranges = [Range(*given.ends[k:k + 2]) for k in range(0, len(given.ends), 2)]
     return page_text(given.sheet, some_boats(rng, ranges))
 
@@ -284,6 +284,7 @@ def byte_cases(rng):
 # what is broken for each refusal of loading (`orders.broken`): in an operation line, and elsewhere
 BROKEN = {
     1: ([], [SHEET]), 2: ([{FORM}], []), 3: ([], [COUNT]), 4: ([{BEYOND}], []), 5: ([{REFERENCE}], []), 6: ([{EXPONENT}], []), 7: ([{CONSTANT}], []),
+    15: ([{MULTIPLIER}], []),
 }
 
 

@@ -4,7 +4,7 @@ from math import isqrt
 from reference.outcome import Refused
 from reference.ranges import LIMIT, UNIT, Range
 from reference.rating import SPECIAL_LIMIT, Result, Rules
-from reference.sheet import MOST_LINES, REFERENCES, Operation, Sheet, sheet_text
+from reference.sheet import MOST_LINES, REFERENCES, Loading, Operation, Sheet, sheet_text
 from reference.text import run
 
 NAMES = ("add", "mul", "addc", "mulc", "pow", "inv")
@@ -58,7 +58,7 @@ def some_range(rng):
 # ---- sheets
 
 class Growing:
-    """A sheet that rates with its ranges, grown a line at a time."""
+    """A sheet that loads and rates with its ranges, grown a line at a time."""
 
     def __init__(self, ranges):
         self.ranges = ranges
@@ -71,6 +71,7 @@ class Growing:
         """Whether the line was accepted: one that would be refused is left out."""
         operation = Operation(name, numbers)
         try:
+            Loading().check(operation, len(self.lines) + 1, len(self.operations) + 2)
             self.lines.append(self.rules.line(operation, self.lines))
         except Refused:
             return False
@@ -83,6 +84,10 @@ class Growing:
         """The number of a line that is known to be accepted."""
         self.append(name, *numbers)
         return len(self.lines)
+
+    def less_itself(self, a):
+        """The number of a line with the slope 0, not bent, that depends on a factor: x - x. Accepted where its range is no wider than the limit."""
+        return self.appended("add", a, self.appended("mulc", a, -UNIT))
 
     def append_any(self, rng, near):
         """`near` in 0..1 says how often the last few lines are taken; of the others the unused ones come first."""
@@ -105,7 +110,7 @@ class Growing:
 
     def sheet(self):
         if not self.operations:
-            self.append("mulc", 1, 0)
+            self.append("addc", 1, 0)  # accepted with any ranges
         return Sheet(len(self.ranges), tuple(self.operations))
 
 
@@ -390,7 +395,7 @@ def special_at_limit(rng):
             g, h = near_special_limit(rng)
 
     def operand(a, value, slope, bend):
-        line = growing.appended("mulc", a, slope)
+        line = growing.appended("mulc", a, slope) if slope else growing.less_itself(a)
         if bend:
             half = growing.appended("mulc", growing.appended("pow", a, 2), UNIT // 2)
             line = growing.appended("add", line, growing.appended("mulc", half, bend))
@@ -429,6 +434,8 @@ def misplaced(rng):
     choice = rng.random()
     if rows[row][0] == b"pow" and choice < 0.4:
         rows[row][2] = rng.choice((b"-2", b"0", b"1", b"9", b"10"))
+    elif rows[row][0] == b"mulc" and choice < 0.2:
+        rows[row][2] = rng.choice((b"0", b"0", b"-0", b"1", b"-1"))
     elif choice < 0.6:
         rows[row][-1 if rng.random() < 0.5 else min(1, len(rows[row]) - 1)] = rng.choice(numerals)
     elif choice < 0.8:
@@ -525,6 +532,15 @@ KINDS = [
     (grown, 26), (blind, 7), (sums, 12), (overreaching, 8), (scaled, 7), (brink, 6), (prescribed_brink, 12), (squares_at_limit, 2),
     (special, 7), (special_far, 1), (special_at_limit, 2), (special_end_at_limit, 2), (misplaced, 9), (damaged, 6), (boxes, 6), (long, 2),
 ]
+
+
+def loaded(rng, weights):
+    """What an input comes to whose sheet loads: of well-formed kinds by their weights, again where one has a multiplication by 0."""
+    while True:
+        kind = rng.choices((grown, sums, overreaching, scaled, blind), weights)[0]
+        outcome = run(kind(rng))
+        if outcome.sheet:
+            return outcome
 
 
 def case(rng):

@@ -1,13 +1,13 @@
 """The order of refusals: which conditions hold of one input at once, and inputs of which two hold.
 
 01: "Loading: 1 first, then text lines from the top, within a line in the order 2, 3, 4, 5, 6, 7; a sheet without operations is found last.
-Rating: 10, 8, 9 (lowest factor), then codelist lines in order, 11 before 12."
+Rating: 10, 8, 9 (lowest factor), then codelist lines in order, 11 before 12." 02, request 5: 15 is "checked right after 7 in its line".
 
 A program that tests two of them the other way round is told from the right one only by an input of which both conditions hold. So every pair
 that can meet is listed here (`ORDERS`), an input of each is made, and the comparison fails where one was never met. Pairs that cannot meet:
-3 with 4 to 7 in one line (only the first line has a count, and it has nothing else), and 6 with 7 in one line (an operation has an exponent or
-a constant). 11 and 12 can meet in one line: Sq of the slopes needs no inverse. 10 comes up in no input of the program `rate`, which loads a
-sheet before it rates: crates/engine_calls has it.
+3 with 4 to 7 or 15 in one line (only the first line has a count, and it has nothing else), 6 with 7 or 15 in one line (an operation has an exponent
+or a constant), and 7 with 15 in one line (0 is within the limit): "right after 7" shows as behind 2, 4 and 5. 11 and 12 can meet in one line: Sq of
+the slopes needs no inverse. 10 comes up in no input of the program `rate`, which loads a sheet before it rates: crates/engine_calls has it.
 """
 import re
 from typing import NamedTuple
@@ -20,8 +20,12 @@ from reference.text import BOX_LINE, MOST_INPUT, parted
 
 # The kinds of a refusal that are told apart: 2 by the line's form or by its missing byte 10, 4 by its line or for want of one, and so on.
 INPUT, SHEET, FORM, END, COUNT, BEYOND, NONE = "1 (input)", "1 (sheet)", "2 (form)", "2 (byte 10)", "3", "4", "4 (no operation)"
-REFERENCE, EXPONENT, CONSTANT, BOX_FORM, BOX_COUNT = "5", "6", "7", "8 (form)", "8 (number)"
+REFERENCE, EXPONENT, CONSTANT, MULTIPLIER, BOX_FORM, BOX_COUNT = "5", "6", "7", "15", "8 (form)", "8 (number)"
 TURNED, TOO_FAR, DIVISOR, PAST = "9 (low above high)", "9 (limit)", "11", "12"
+
+
+def number_of(kind):
+    return int(kind.split(" ")[0])
 
 
 class Held(NamedTuple):
@@ -33,7 +37,7 @@ class Held(NamedTuple):
 
     @property
     def number(self):
-        return int(self.kind.split(" ")[0])
+        return number_of(self.kind)
 
 
 # ---- which conditions hold
@@ -50,7 +54,7 @@ def loosely(line):
 
 
 def line_kinds(line, place, ended, factors):
-    """What a text line breaks, in the order 2 to 7. A field is looked at even where another one spoils the line's form."""
+    """What a text line breaks, in the order 2 to 7, 15. A field is looked at even where another one spoils the line's form."""
     word, numbers = loosely(line)
     if not (FIRST_LINE if place == 1 else OPERATION).fullmatch(line):
         yield FORM
@@ -76,6 +80,8 @@ def line_kinds(line, place, ended, factors):
             yield EXPONENT
         if name in ("addc", "mulc") and abs(numbers[count]) > LIMIT:
             yield CONSTANT
+        if name == "mulc" and numbers[count] == 0:
+            yield MULTIPLIER
 
 
 def rated_kinds(factors, lines, ranges):
@@ -181,18 +187,20 @@ def some_damage(rng, fields, needed):
 
 def bad_line(rng, kinds, own):
     """An operation line, the codelist line `own`, that breaks those rules and no other but by its place."""
-    names = ["pow"] if EXPONENT in kinds else ["addc", "mulc"] if CONSTANT in kinds else list(REFERENCES)
+    names = ["pow"] if EXPONENT in kinds else ["mulc"] if MULTIPLIER in kinds else ["addc", "mulc"] if CONSTANT in kinds else list(REFERENCES)
     name = rng.choice(names)
     earlier, later = rng.randint(1, 3), rng.choice((0, -1, own, own + 1, 99, 9999999999))
     references = [later if REFERENCE in kinds else earlier for _ in range(REFERENCES[name])]
     last = []
     if name == "pow":
         last = [rng.choice((-2, 0, 1, 9, 10, 257) if EXPONENT in kinds else (2, 3, 8))]
+    elif MULTIPLIER in kinds:
+        last = [0]
     elif name in ("addc", "mulc"):
         last = [rng.choice((-1, 1)) * (rng.randint(LIMIT + 1, 9999999999) if CONSTANT in kinds else rng.randint(1, 9))]
     fields = [name.encode(), *(b"%d" % number for number in references + last)]
     if FORM in kinds:
-        needed = len(fields) if kinds & {EXPONENT, CONSTANT} else 2 if REFERENCE in kinds else 0
+        needed = len(fields) if kinds & {EXPONENT, CONSTANT, MULTIPLIER} else 2 if REFERENCE in kinds else 0
         fields = some_damage(rng, fields, needed)
     return b"\t".join(fields)
 
@@ -256,7 +264,7 @@ def box_rows(rng, factors, also):
 
 def makers():
     """Each order that can come up, with what is to be broken for it: the kinds of its lines and those elsewhere."""
-    one_line = [COUNT, BEYOND, REFERENCE, EXPONENT, CONSTANT]
+    one_line = [COUNT, BEYOND, REFERENCE, EXPONENT, CONSTANT, MULTIPLIER]
     for two in (FORM, END):
         for other in one_line:
             yield f"order in a line: {two} over {other}", (([], [two, COUNT, NONE]) if other == COUNT else ([{two, other}], []))
@@ -264,13 +272,13 @@ def makers():
         for other in others:
             yield f"order in a line: {first} over {other}", ([{first, other}], [])
     yield f"order in a line: {DIVISOR} over {PAST}", ([{DIVISOR, PAST}], [])
-    later = [FORM, BEYOND, REFERENCE, EXPONENT, CONSTANT]
+    later = [FORM, BEYOND, REFERENCE, EXPONENT, CONSTANT, MULTIPLIER]
     for first in [FORM, COUNT, *later[1:]]:
         for other in later:
-            name = f"order of text lines: {first[0]} before {other[0]}"
+            name = f"order of text lines: {number_of(first)} before {number_of(other)}"
             yield name, (([{other}], [COUNT]) if first == COUNT else ([{first}, {other}], []))
     for other in later:
-        yield f"order of text lines: 2 before {other[0]}", ([{other}], [FORM])
+        yield f"order of text lines: 2 before {number_of(other)}", ([{other}], [FORM])
     yield f"order: {FORM} over {NONE}", ([{FORM}], [NONE])
     yield f"order: {END} over {NONE}", ([], [END, NONE])
     yield f"order: {COUNT} over {NONE}", ([], [COUNT, NONE])
@@ -278,21 +286,21 @@ def makers():
               (DIVISOR, [{DIVISOR}], []), (PAST, [{PAST}], [])]
     for first in (INPUT, SHEET):
         for other in later:
-            yield f"order: {first} over {other[0]}", ([{other}], [first])
+            yield f"order: {first} over {number_of(other)}", ([{other}], [first])
         yield f"order: {first} over {COUNT}", ([], [first, COUNT])
         yield f"order: {first} over {NONE}", ([], [first, NONE])
-    for first in (INPUT, SHEET, FORM, COUNT, BEYOND, REFERENCE, EXPONENT, CONSTANT, NONE):
+    for first in (INPUT, SHEET, FORM, COUNT, BEYOND, REFERENCE, EXPONENT, CONSTANT, MULTIPLIER, NONE):
         for other, lines, also in ranges:
             if first == NONE and lines:
                 continue
-            name = first if first in (INPUT, SHEET, NONE) else first[0]
+            name = first if first in (INPUT, SHEET, NONE) else number_of(first)
             elsewhere = first in (INPUT, SHEET, COUNT, NONE)
             what = (lines, also + [first]) if elsewhere else (lines + [{first}], also)
-            yield f"order: {name} over {other.split(' ')[0]}", what
+            yield f"order: {name} over {number_of(other)}", what
     for first in (BOX_FORM, BOX_COUNT, TURNED, TOO_FAR):
         for other, lines, also in ranges:
-            if other[0] != "8" and first[0] != other[0]:
-                yield f"order: {first} over {other.split(' ')[0]}", (lines, [first] + also)
+            if number_of(other) not in (8, number_of(first)):
+                yield f"order: {first} over {number_of(other)}", (lines, [first] + also)
     for first in (TURNED, TOO_FAR):
         for other in (TURNED, TOO_FAR):
             yield f"order of factors: {first} before {other}", ([], [first, other])

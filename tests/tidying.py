@@ -4,7 +4,7 @@ byte of which is compared.
 """
 import random
 
-from errors import TIDY_ERRORS
+from errors import LOADING_ERRORS, TIDY_ERRORS, ZERO_FIELD
 from reference.outcome import Refusal, Refused
 from reference.rating import Result
 from reference.sheet import REFERENCES, load, sheet_text
@@ -22,7 +22,7 @@ BUFFER_RULES = [
 
 # The last five are met only where a line was dropped, since only then the tidied sheet is rated.
 TIDY_RULES = [
-    *(f"tidy: refused by loading, {number}" for number in range(1, 8)),
+    *(f"tidy: refused by loading, {number}" for number in (*range(1, 8), 15)),
     "tidy: nothing dropped", "tidy: a line dropped", *(f"tidy: `{name}` dropped" for name in REFERENCES),
     "tidy: a dropped line used by another dropped line", "tidy: a dropped line equal to a kept one",
     "tidy: an unused factor kept", "tidy: a factor kept that only dropped lines use", "tidy: a line used only through others kept",
@@ -34,7 +34,7 @@ TIDY_RULES = [
 
 
 class TidyComparison(Tally):
-    errors = TIDY_ERRORS
+    errors = TIDY_ERRORS + LOADING_ERRORS
 
     def __init__(self, tidy, rate, into=None):
         super().__init__()
@@ -57,10 +57,12 @@ class TidyComparison(Tally):
             self.note(f"tidy: refused by loading, {refused.args[0].number}")
         else:
             self.note_sheet(sheet)
-            self.catch_errors(ours, lambda wrong: sheet_text(wrong().tidied(sheet)))
+            self.catch_errors(ours, lambda wrong: sheet_text(wrong().tidied(sheet)), TIDY_ERRORS)
             if ours != given:  # where the two sheets are one, nothing is left to compare
                 complaint += difference(self.tidy, ours, ours)
                 complaint += self.rating_complaint(sheet, outcome, ours if box is None else ours + b"box\n" + box)
+        if ZERO_FIELD.search(given):
+            self.catch_errors(ours, lambda wrong: tidy_printed(given, loading=wrong), LOADING_ERRORS)
         if self.into and (rng is None or rng.random() < BUFFER_SHARE):
             complaint += self.buffer_complaint(given, ours)
         self.judge(name + ", tidied", given, complaint)

@@ -1,6 +1,6 @@
 """The rules of paper 01 once more, and of 02 as its requests land, over unlimited whole numbers and exact fractions, for clarity and not speed.
 
-sheet.py   the text of a sheet and refusals 1 to 7
+sheet.py   the text of a sheet, refusals 1 to 7 and 15
 ranges.py  range arithmetic
 rating.py  sets, bends, the table of the lines, refusals 8 to 12
 exact.py   the exact side, and what a result promises of it

@@ -4,7 +4,7 @@ from typing import NamedTuple
 
 from .outcome import Refusal, Refused, refuse
 from .rating import Result, Rules, rate
-from .sheet import NUMERAL, load, text_lines
+from .sheet import NUMERAL, Loading, load, text_lines
 from .text import parted, printed
 
 RECORD = 8  # "records, eight numbers each"
@@ -39,6 +39,7 @@ class Fleet:
     `rated` can be lent, too: a test that meets one boat many times lends a function that remembers what it came to.
     """
     most_boats = MOST_BOATS
+    loading = Loading
 
     def __init__(self, rated=rated):
         self.rated = rated
@@ -109,7 +110,7 @@ class Fleet:
         """The report or the refusal of an input. The program reads one byte beyond the most there may be, which is enough: a sheet that is not
         refused with 1 for its length has ended by then, and the list is refused with 14."""
         try:
-            sheet = load(self.parted(text)[0])
+            sheet = load(self.parted(text)[0], rules=self.loading)
             return self.report(sheet, self.listed(text))
         except Refused as refused:
             return refused.args[0]

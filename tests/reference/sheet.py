@@ -1,4 +1,4 @@
-"""01, "The sheet" and refusals 1 to 7: from bytes to a codelist, and back."""
+"""01, "The sheet" and refusals 1 to 7, with 15 of 02's request 5: from bytes to a codelist, and back."""
 import re
 from typing import NamedTuple
 
@@ -42,53 +42,81 @@ def sheet_text(sheet):
     return "".join("\t".join(map(str, row)) + "\n" for row in rows).encode()
 
 
-def load(text, note=unnoted):
-    """The sheet written in the bytes, or the first refusal."""
-    if len(text) > MOST_BYTES:
-        note("1: sheet over 4,096 bytes")
-        refuse(1, 0)
-    lines, ended = text_lines(text)
-    if not lines:
-        note("2: no first line")
-        refuse(2, 1)
-    factors = 0
-    operations = []
-    for place, line in enumerate(lines, 1):
-        form = (FIRST_LINE if place == 1 else OPERATION).fullmatch(line)
-        if place == len(lines) and not ended:
-            note("2: final byte 10 missing")
-            refuse(2, place)
-        if form is None:
-            note("2: first line's form" if place == 1 else "2: operation line's form")
-            refuse(2, place)
-        if place == 1:
-            factors = int(form[1])
-            if not 1 <= factors <= MOST_FACTORS:
-                note("3: factors below 1" if factors < 1 else "3: factors above 8")
-                refuse(3, 1)
-            continue
-        fields = [field for field in form.groups() if field is not None]
-        operation = Operation(fields[0].decode(), tuple(int(field) for field in fields[1:]))
-        check(operation, factors + place - 1, place, note)
-        operations.append(operation)
-    if not operations:
-        note("4: no operation line")
-        refuse(4, 1)
-    return Sheet(factors, tuple(operations))
+class Loading:
+    """The rules as methods, so that a test can put one wrong rule in the place of a right one."""
+
+    def __init__(self, note=unnoted):
+        self.note = note
+
+    def sheet(self, text):
+        """The sheet written in the bytes, or the first refusal."""
+        if len(text) > MOST_BYTES:
+            self.note("1: sheet over 4,096 bytes")
+            refuse(1, 0)
+        lines, ended = text_lines(text)
+        if not lines:
+            self.note("2: no first line")
+            refuse(2, 1)
+        factors = 0
+        operations = []
+        for place, line in enumerate(lines, 1):
+            form = (FIRST_LINE if place == 1 else OPERATION).fullmatch(line)
+            if place == len(lines) and not ended:
+                self.note("2: final byte 10 missing")
+                refuse(2, place)
+            if form is None:
+                self.note("2: first line's form" if place == 1 else "2: operation line's form")
+                refuse(2, place)
+            if place == 1:
+                factors = int(form[1])
+                if not 1 <= factors <= MOST_FACTORS:
+                    self.note("3: factors below 1" if factors < 1 else "3: factors above 8")
+                    refuse(3, 1)
+                continue
+            fields = [field for field in form.groups() if field is not None]
+            operation = Operation(fields[0].decode(), tuple(int(field) for field in fields[1:]))
+            self.check(operation, factors + place - 1, place)
+            operations.append(operation)
+        if not operations:
+            self.note("4: no operation line")
+            refuse(4, 1)
+        return Sheet(factors, tuple(operations))
+
+    def check(self, operation, codelist_line, place):
+        """Refusals 4 to 7 and 15 of one operation line, in this order: 15 is "checked right after 7 in its line"."""
+        self.check_number(operation, codelist_line, place)
+        self.check_references(operation, codelist_line, place)
+        self.check_exponent(operation, codelist_line, place)
+        self.check_constant(operation, codelist_line, place)
+        self.check_multiplier(operation, codelist_line, place)
+
+    def check_number(self, operation, codelist_line, place):
+        if codelist_line > MOST_LINES:
+            self.note("4: codelist line beyond the 64th")
+            refuse(4, place)
+
+    def check_references(self, operation, codelist_line, place):
+        for reference in operation.numbers[:REFERENCES[operation.name]]:
+            if not 1 <= reference < codelist_line:
+                self.note("5: reference below 1" if reference < 1 else "5: reference not earlier")
+                refuse(5, place)
+
+    def check_exponent(self, operation, codelist_line, place):
+        if operation.name == "pow" and not 2 <= operation.numbers[1] <= 8:
+            self.note("6: exponent below 2" if operation.numbers[1] < 2 else "6: exponent above 8")
+            refuse(6, place)
+
+    def check_constant(self, operation, codelist_line, place):
+        if operation.name in ("addc", "mulc") and not -LIMIT <= operation.numbers[1] <= LIMIT:
+            self.note("7: constant beyond the limit")
+            refuse(7, place)
+
+    def check_multiplier(self, operation, codelist_line, place):
+        """"`mulc` with the constant 0", in a line that is used or not."""
+        if operation.name == "mulc" and operation.numbers[1] == 0:
+            self.note("15: multiplication by 0")
+            refuse(15, place)
 
 
-def check(operation, codelist_line, place, note):
-    """Refusals 4 to 7 of one operation line, in this order."""
-    if codelist_line > MOST_LINES:
-        note("4: codelist line beyond the 64th")
-        refuse(4, place)
-    for reference in operation.numbers[:REFERENCES[operation.name]]:
-        if not 1 <= reference < codelist_line:
-            note("5: reference below 1" if reference < 1 else "5: reference not earlier")
-            refuse(5, place)
-    if operation.name == "pow" and not 2 <= operation.numbers[1] <= 8:
-        note("6: exponent below 2" if operation.numbers[1] < 2 else "6: exponent above 8")
-        refuse(6, place)
-    if operation.name in ("addc", "mulc") and not -LIMIT <= operation.numbers[1] <= LIMIT:
-        note("7: constant beyond the limit")
-        refuse(7, place)
+def load(text, note=unnoted, rules=Loading):
+    return rules(note).sheet(text)

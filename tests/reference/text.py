@@ -4,7 +4,7 @@ from typing import NamedTuple, Union
 
 from .outcome import Refusal, Refused, refuse, unnoted
 from .rating import Result, Rules, rate
-from .sheet import NUMERAL, Sheet, load, text_lines
+from .sheet import NUMERAL, Loading, Sheet, load, text_lines
 
 MOST_INPUT = 8192
 BOX_LINE = re.compile(NUMERAL + rb"\t" + NUMERAL)
@@ -39,14 +39,14 @@ def box_ends(text, note=unnoted):
     return [int(end) for form in forms for end in form.groups()]
 
 
-def run(text, rules=Rules, note=unnoted):
+def run(text, rules=Rules, note=unnoted, loading=Loading):
     sheet = ends = None
     try:
         if len(text) > MOST_INPUT:
             note("1: input over 8,192 bytes")
             refuse(1, 0)
         sheet_text, box_text = parted(text)
-        sheet = load(sheet_text, note)
+        sheet = load(sheet_text, note, loading)
         ends = box_ends(box_text, note)
         answer = rate(sheet, ends, rules, note)
     except Refused as refused:

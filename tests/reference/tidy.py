@@ -1,6 +1,6 @@
 """02, request 1, "Tidied sheets for the tariff book": a sheet without its dead lines, the call that writes it, and the program `tidy`."""
 from .outcome import Refusal, Refused, refuse
-from .sheet import MOST_BYTES, REFERENCES, Operation, Sheet, load, sheet_text
+from .sheet import MOST_BYTES, REFERENCES, Loading, Operation, Sheet, load, sheet_text
 from .text import printed
 
 
@@ -53,7 +53,7 @@ def operation_at(sheet, line):
     return sheet.operations[line - sheet.factors - 1]
 
 
-def tidy(text, buffer, rules=Tidying):
+def tidy(text, buffer, rules=Tidying, loading=Loading):
     """The call: what it gives, and the bytes of the lent buffer afterwards.
 
     It gives the length of the tidied text, which stands at the buffer's start, or a refusal. "A buffer that is too short gets refusal 13,
@@ -61,7 +61,7 @@ def tidy(text, buffer, rules=Tidying):
     their values, a refused call touches none".
     """
     try:
-        tidied = sheet_text(rules().tidied(load(text)))
+        tidied = sheet_text(rules().tidied(load(text, rules=loading)))
         if len(buffer) < len(tidied):
             refuse(13, 0)
     except Refused as refused:
@@ -69,7 +69,7 @@ def tidy(text, buffer, rules=Tidying):
     return len(tidied), tidied + buffer[len(tidied):]
 
 
-def tidy_printed(text, rules=Tidying):
+def tidy_printed(text, rules=Tidying, loading=Loading):
     """What the program prints for a sheet on its standard input: it lends as many bytes as a sheet may have, so 13 does not come up."""
-    answer, buffer = tidy(text, bytes(MOST_BYTES), rules)
+    answer, buffer = tidy(text, bytes(MOST_BYTES), rules, loading)
     return printed(answer) if isinstance(answer, Refusal) else buffer[:answer]
