@@ -336,6 +336,24 @@ def squares_at_limit(rng):
     return input_text(Sheet(factors, tuple(operations)), [Range(0, 0)] * factors)
 
 
+def unsloped(rng):
+    """A product over more factors than one of a line whose slopes are all 0, a factor less itself or a power of one that is 0: Cross's root is 0."""
+    factors = rng.randint(2, 4)
+    ranges = [Range(*sorted(rng.randint(-3 * UNIT, 3 * UNIT) for _ in range(2))) for _ in range(factors)]
+    a, powered = rng.randint(1, factors), rng.random() < 0.5
+    if powered:
+        ranges[a - 1] = Range(0, 0)
+    growing = Growing(ranges)
+    i = growing.appended("pow", a, rng.randint(2, 8)) if powered else growing.less_itself(a)
+    j = growing.appended("add", *rng.sample(range(1, factors + 1), 2))
+    if rng.random() < 0.6:
+        j = growing.appended(*rng.choice((("pow", j, 2), ("mulc", j, constant(rng)), ("addc", j, constant(rng)))))
+    growing.append("mul", *rng.choice(((i, j), (j, i))))
+    if rng.random() < 0.3:
+        growing.append_any(rng, 1.0)
+    return input_text(growing.sheet(), growing.ranges)
+
+
 def of_one_factor(rng, growing, a):
     """A line that depends on a factor alone, or the factor itself."""
     line = a
@@ -434,7 +452,7 @@ def misplaced(rng):
     choice = rng.random()
     if rows[row][0] == b"pow" and choice < 0.4:
         rows[row][2] = rng.choice((b"-2", b"0", b"1", b"9", b"10"))
-    elif rows[row][0] == b"mulc" and choice < 0.2:
+    elif rows[row][0] == b"mulc" and choice < 0.4:
         rows[row][2] = rng.choice((b"0", b"0", b"-0", b"1", b"-1"))
     elif choice < 0.6:
         rows[row][-1 if rng.random() < 0.5 else min(1, len(rows[row]) - 1)] = rng.choice(numerals)
@@ -529,7 +547,7 @@ def long(rng):
 
 
 KINDS = [
-    (grown, 26), (blind, 7), (sums, 12), (overreaching, 8), (scaled, 7), (brink, 6), (prescribed_brink, 12), (squares_at_limit, 2),
+    (grown, 25), (unsloped, 1), (blind, 7), (sums, 12), (overreaching, 8), (scaled, 7), (brink, 6), (prescribed_brink, 12), (squares_at_limit, 2),
     (special, 7), (special_far, 1), (special_at_limit, 2), (special_end_at_limit, 2), (misplaced, 9), (damaged, 6), (boxes, 6), (long, 2),
 ]
 

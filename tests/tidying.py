@@ -15,14 +15,17 @@ from tally import Tally, difference
 RIGHT = Tidying()
 BUFFER_SHARE = 0.2  # of the random sheets, tidied into a buffer of a length of its own
 
+LOADING = (*range(1, 8), 15)  # the refusals that loading gives, and tidying passes on
+
 BUFFER_RULES = [
-    "tidy into: refused by loading, the buffer as it was", "tidy into: an empty buffer", "tidy into: one byte too short", "tidy into: shorter still",
-    "tidy into: just long enough", "tidy into: bytes past the text kept",
+    *(f"tidy into: refused by loading, {number}, the buffer as it was" for number in LOADING),
+    "tidy into: an empty buffer", "tidy into: one byte too short", "tidy into: shorter still", "tidy into: just long enough",
+    "tidy into: bytes past the text kept",
 ]
 
 # The last five are met only where a line was dropped, since only then the tidied sheet is rated.
 TIDY_RULES = [
-    *(f"tidy: refused by loading, {number}" for number in (*range(1, 8), 15)),
+    *(f"tidy: refused by loading, {number}" for number in LOADING),
     "tidy: nothing dropped", "tidy: a line dropped", *(f"tidy: `{name}` dropped" for name in REFERENCES),
     "tidy: a dropped line used by another dropped line", "tidy: a dropped line equal to a kept one",
     "tidy: an unused factor kept", "tidy: a factor kept that only dropped lines use", "tidy: a line used only through others kept",
@@ -85,7 +88,7 @@ class TidyComparison(Tally):
         elif answer.number == 13:
             self.note("tidy into: one byte too short" if length == needed - 1 else "tidy into: shorter still")
         else:
-            self.note("tidy into: refused by loading, the buffer as it was")
+            self.note(f"tidy into: refused by loading, {answer.number}, the buffer as it was")
 
     def rating_complaint(self, sheet, outcome, tidied_text):
         """`rate` of the tidied sheet with the same ranges: by what the request says of it, and by the reference's rating of it."""
