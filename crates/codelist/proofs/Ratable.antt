@@ -1,6 +1,5 @@
 -- The Boolean `ratable` is true exactly where a codelist is ratable, and one step of it, as the loop of the code takes it; what a codelist with
--- fitting counts and a ratable one have besides; that every well formed one is ratable; and that none
--- multiplies by 0.
+-- fitting counts and a ratable one have besides; that every well formed one is ratable, and that no ratable one multiplies by 0.
 use Prim.Native.Nat.{ℕ, _+_, _-_, _≤_, _<_}
 use mathlib.Core.Bool.{true, false, _&&_}
 use mathlib.Core.List.{List}
