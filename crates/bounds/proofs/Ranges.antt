@@ -2,9 +2,11 @@
 use mathlib.Core.Path.{_≡_, refl, ap, _∙_}
 use mathlib.Core.Bool.{Bool, true, false, cond}
 use mathlib.Core.List.{List, [], _∷_}
-use Prim.Native.Nat.{ℕ, zero, suc, _+_, _*_, _≤_, _<_}
+use Prim.Native.Nat.{ℕ, zero, suc, _+_, _*_, _/_, _≤_, _<_}
+use native.Mathlib.Nat as N
 use native.Mathlib.Numerals.{add-one}
 use native.Mathlib.Omega.{arith}
+use lib.Dec.{lit<}
 use lib.IntN.{ℤ}
 use lib.ListN.{length, getD, drop, drop-of-length-le}
 use lib.Seq.{drop-cons}
@@ -36,6 +38,20 @@ pairs-count (l ∷ []) n e = absurd (omega arith)
 pairs-count (l ∷ r ∷ xs) zero e = absurd (omega arith)
 pairs-count (l ∷ r ∷ xs) (suc n) e = ap suc (pairs-count xs n (omega arith))
 
+pub pairs-half : (xs : List ℤ) → length (pairs xs) ≡ length xs / 2
+pairs-half [] = refl
+pairs-half (l ∷ []) = refl
+pairs-half (l ∷ r ∷ xs) =
+    let n = length xs in
+    omega (
+      arith,
+      pairs-half xs,
+      N.div-mul-le-self n 2,
+      N.lt-div-mul-add {a = n} {b = 2} (lit< tt),
+      N.div-mul-le-self (suc (suc n)) 2,
+      N.lt-div-mul-add {a = suc (suc n)} {b = 2} (lit< tt),
+    )
+
 -- ---- the lowest bad one
 module _ (rs : List Range) (a : ℕ) where
   module _ (h : a < length rs) where
@@ -52,6 +68,16 @@ module _ (rs : List Range) (a : ℕ) where
   pub bad-end : length rs ≤ a → firstBad (a + 1) (drop a rs) ≡ 0
   unfolding firstBad
   bad-end h = rw (drop-of-length-le rs h)
+
+-- it is one of the factors
+pub bad-few : (a : ℕ) (rs : List Range) → firstBad (suc a) rs ≤ a + length rs
+unfolding firstBad
+bad-few a [] = omega arith
+bad-few a (r ∷ rs) = go (isValid r) (bad-few (suc a) rs)
+  where
+    go : (t : Bool) → firstBad (suc (suc a)) rs ≤ suc a + length rs → cond t (firstBad (suc (suc a)) rs) (suc a) ≤ a + suc (length rs)
+    go true h = omega arith
+    go false h = omega arith
 
 -- where none is bad, all are valid
 pub none-bad : (rs : List Range) (a : ℕ) → firstBad (suc a) rs ≡ 0 → eachValid rs ≡ true

@@ -2,7 +2,7 @@
 // The lines stand in a table of plain numbers: a row reads those that it refers to where they lie, and writes its own. A line is refused where
 // one of its ranges passes the limit, so that whatever a later line refers to is valid, and its sums and products need not test their operands.
 ghost use mathlib.Core.Path.{_≡_};
-ghost use Rattle.rules.specs.Rate.{rateOf};
+ghost use Rattle.rules.specs.Rate.{pairs, firstBad, rateOf};
 use codelist::Codelist;
 use rules::Rating;
 
@@ -19,4 +19,18 @@ pub fn rate(c: Codelist, xs: &[i64]) -> Rating
     ensures { λ r. ⌜ r ≡ rateOf c (now (xs .entry)) ⌝ }
 {
     run::answer(c, xs)
+}
+
+// Refusal 9: the lowest factor, counted from 1, whose range is not valid; 0 if there is none. A number after the last pair is not looked at.
+pub fn first_bad(xs: &[i64]) -> usize
+    ensures { λ r. ⌜ r ≡ firstBad 1 (pairs (now (xs .entry))) ⌝ }
+{
+    let mut a: usize = 0;
+    while a < xs.len() / 2 {
+        if !run::range_at(xs, a).valid() {
+            return a + 1;
+        }
+        a += 1;
+    }
+    0
 }

@@ -9,7 +9,7 @@ ghost use Rattle.range.specs.Arithmetic.{holdsZero};
 ghost use Rattle.codelist.specs.Codelist.{WellFormedOp, ratable};
 ghost use Rattle.rules.specs.declared.Refusal.the-variants.{NoCodelist};
 ghost use Rattle.rules.specs.Run.{eachValid, rowOf, invertsZero, factorLines};
-ghost use Rattle.rules.specs.Rate.{limitsOf, rated, refused, pairs, firstBad, rateOf};
+ghost use Rattle.rules.specs.Rate.{limitsOf, rated, refused, pairs, rateOf};
 ghost use Rattle.bounds.specs.Terms.{Fine};
 ghost use Rattle.bounds.specs.Table.{gradientAt, lineAt, linesUpTo, Ready, Worked, Started};
 use super::rows;
@@ -24,20 +24,10 @@ use rules::Outcome;
 use rules::Rating;
 use rules::Refusal;
 
-// "A refusal carries number and place, every other field is 0"
-const NO_LIMITS: Limits = Limits {
-    value: Range::ZERO,
-    gradient: [Range::ZERO; 8],
-    support: 0,
-    nonlinear: 0,
-    spectrum: Range::ZERO,
-    full: Range::ZERO,
-};
-
 fn refuse(r: Refusal) -> Rating
     ensures { λ a. ⌜ a ≡ refused r ⌝ }
 {
-    let limits = NO_LIMITS;
+    let limits = Limits::ZERO;
     Rating {
         outcome: Outcome::Refused(r),
         limits: limits,
@@ -79,26 +69,11 @@ fn holds_zero(r: Range) -> bool
 }
 
 // The range of the factor a, counted from 0.
-fn range_at(xs: &[i64], a: usize) -> Range
+pub(crate) fn range_at(xs: &[i64], a: usize) -> Range
     requires { ⌜ a < length (pairs (now xs)) ⌝ }
     ensures { λ r. ⌜ r ≡ getD (pairs (now (xs .entry))) a zeroRange ⌝ }
 {
     Range::new(xs[2 * a], xs[2 * a + 1])
-}
-
-// The lowest factor, counted from 1, whose range is not valid; 0 if there is none.
-fn first_bad(xs: &[i64], n: u8) -> u8
-    requires { ⌜ length (pairs (now xs)) ≡ n ⌝ }
-    ensures { λ r. ⌜ r ≡ firstBad 1 (pairs (now (xs .entry))) ⌝ }
-{
-    let mut a: u8 = 0;
-    while a < n {
-        if !range_at(xs, a as usize).valid() {
-            return a + 1;
-        }
-        a += 1;
-    }
-    0
 }
 
 // Where the codelist line i, counted from 1, stands in the table.
@@ -188,9 +163,9 @@ pub(crate) fn answer(c: Codelist, xs: &[i64]) -> Rating
     if xs.len() != 2 * n {
         return refuse_ratable(c, Refusal::RangeCount);
     }
-    let bad = first_bad(xs, c.factors);
+    let bad = super::first_bad(xs);
     if bad != 0 {
-        return refuse_ratable(c, Refusal::BadRange(bad));
+        return refuse_ratable(c, Refusal::BadRange(bad as u8));
     }
     let mut t = [0i32; 1280];
     let mut s = [0u8; 128];

@@ -1,5 +1,5 @@
 -- What is promised of the program `fleet`. Assumes nothing.
-use Prim.Native.Nat.{ℕ, suc, zero, _+_, _-_, _≤_, _<_}
+use Prim.Native.Nat.{ℕ, suc, zero, _+_, _≤_, _<_}
 use mathlib.Core.Bool.{Bool, true, false, cond}
 use mathlib.Core.List.{List, [], _∷_, _++_}
 use mathlib.Core.Option.{Option, none, some}
@@ -8,8 +8,8 @@ use native.Mathlib.Decide.{decLe}
 use native.Mathlib.Omega.{arith}
 use lib.Dec.{leb, ltb}
 use lib.IntN.{ℤ, pos, negsuc}
-use lib.ListN.{length, take, replicate, length-append}
-use lib.Seq.{take-all, take-at, take-take, length-take-le}
+use lib.ListN.{length, take, length-append}
+use lib.Seq.{take-all, take-take, length-take-le}
 use borrow.Author.Tests.{lt-leb}
 use Rattle.codelist.specs.declared.Numeral.{Numeral}
 use Rattle.codelist.specs.Load.{valueOf, loadOf}
@@ -20,7 +20,6 @@ use Rattle.engine.specs.declared.Engine.{Engine}
 use Rattle.engine.specs.declared.Outcome.{Outcome}
 use Rattle.engine.specs.declared.Outcome.the-variants.{Accepted, Refused}
 use Rattle.engine.specs.declared.Refusal.{Refusal}
-use Rattle.engine.specs.Engine as engine
 use Rattle.engine.specs.Engine.{emptyEngine, loadedOf}
 use Rattle.engine.proofs.Demands.{demands}
 use Rattle.writer.specs.Texts.{wholeText}
@@ -28,6 +27,7 @@ use Rattle.writer.proofs.Lengths.{refused-length}
 use Rattle.text.specs.Input.{sheetLength, sheetOf, afterLine}
 use Rattle.text.specs.Output as text
 use Rattle.text.specs.Answer.{written, unlessRefused}
+use Rattle.text.proofs.Lengths.{unless-length, written-whole}
 use Rattle.text.proofs.Splitting.{sheetLength-≤}
 use Rattle.boats.specs.declared.Outcome as boats
 use Rattle.boats.specs.declared.Refusal.the-variants as boats-refusal
@@ -143,18 +143,11 @@ unfolding refusalText
 page-length e (some bs) = counted-length (length bs) (fleetOf e bs .outcome) (fleetOf e bs .report)
 page-length e none = omega (arith, refused-length 14 0)
 
-unless-length : (o : Outcome) (t : List ℕ) → length t ≤ 1024 → length (unlessRefused o t) ≤ 1024
-unfolding text.refusalText
-unless-length Accepted t h = h
-unless-length (Refused r) t h = omega (arith, refused-length (engine.numberOf r) (engine.placeOf r))
-
 answer-whole : (s : List ℕ) → take (written (answerOf s) .len) (written (answerOf s) .bytes) ≡ answerOf s
-unfolding written answerOf
+unfolding answerOf
 answer-whole s =
     let l = loadedOf emptyEngine (sheetIn s) in
-    let t = loadingText l (boatsIn s) in
-    let a : take 1024 t ≡ t = take-all 1024 t (unless-length (l .outcome) (pageText (l .engine) (boatsIn s)) (page-length (l .engine) (boatsIn s))) in
-    rw a (take-at t (replicate (1024 - length t) 0) (length t) refl)
+    written-whole (loadingText l (boatsIn s)) (unless-length (l .outcome) (pageText (l .engine) (boatsIn s)) (λ _. page-length (l .engine) (boatsIn s)))
 
 -- ---- what follows the first 102,401 bytes
 module _ (s : List ℕ) where

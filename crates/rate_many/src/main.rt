@@ -1,4 +1,4 @@
-// The programs `rate` and `fleet`, with their work done as often as the first argument says: for measuring it. The second argument is the job.
+// The programs `rate`, `fleet` and `cut`, with their work done as often as the first argument says: for measuring it. The second argument is the job.
 ghost use Prim.Native.Nat.{_≤_};
 ghost use lib.ListN.{length};
 use fleet_text::Form;
@@ -18,7 +18,8 @@ fn main() {
     io::write_all(1, &bytes[..len]);
 }
 
-// What the job prints: `numbers` makes pages of a flat slice of numbers, `boats` pages of a slice of structs; `rate`, and no job, are ratings.
+// What the job prints: `numbers` makes pages of a flat slice of numbers, `boats` pages of a slice of structs, `cut` cuts a class; `rate`, and no job,
+// are ratings.
 fn answer(job: &[u8], input: &[u8], times: u64) -> Text
     ensures { λ r. ⌜ r .len ≤ length (r .bytes) ⌝ }
 {
@@ -27,6 +28,9 @@ fn answer(job: &[u8], input: &[u8], times: u64) -> Text
     }
     if check::same(job, b"boats") {
         return fleet_text::answer_after(input, Form::Structs, times);
+    }
+    if check::same(job, b"cut") {
+        return cut_text::answer_after(input, times);
     }
     text::answer_after(input, times)
 }

@@ -21,6 +21,7 @@ pub mod Sound
 pub mod Nested
 pub mod Shaped
 pub mod Vanishing
+pub mod SameSets
 -- specs/Overflow and specs/Refused: refusal 12, where a run stops, and each refusal of rating
 pub mod Formulas
 pub mod Passing

@@ -10,4 +10,5 @@ pub mod Refused
 pub mod Exact
 pub mod Promises
 pub mod Sharper
+pub mod SameSets
 pub mod Figures

@@ -45,6 +45,18 @@ pub struct Limits {
     pub full: Range,
 }
 
+impl Limits {
+    // "A refusal carries number and place, every other field is 0"
+    pub const ZERO: Limits = Limits {
+        value: Range::ZERO,
+        gradient: [Range::ZERO; 8],
+        support: 0,
+        nonlinear: 0,
+        spectrum: Range::ZERO,
+        full: Range::ZERO,
+    };
+}
+
 // The answer. Where it is a refusal, every field of the limits is 0.
 pub struct Rating {
     pub outcome: Outcome,

@@ -18,7 +18,7 @@ use Rattle.text.proofs.Lengths.{answer-whole}
 use Rattle.text.proofs.Parsing.{range-inv, slopes-inv, set-inv}
 
 -- piece by piece
-limits-inv : (n : ℕ) (k l : Limits) → Valid k → Valid l → limitsText n k ≡ limitsText n l → Same n k l
+pub limits-inv : (n : ℕ) (k l : Limits) → Valid k → Valid l → limitsText n k ≡ limitsText n l → Same n k l
 unfolding limitsText
 limits-inv n k l v w e =
     let a = range-inv (k .value) (l .value) _ _ (v .value) (w .value) (append-cancel-left value _ _ e) in

@@ -60,7 +60,7 @@ set-length : (s : ℕ) → length (setFields s) ≤ 17
 unfolding setFields
 set-length s = simp length-append (omega (arith, members-length 8 s (omega arith)))
 
-limits-length : (n : ℕ) (l : Limits) → n ≤ 8 → length (limitsText n l) ≤ 1024
+pub limits-length : (n : ℕ) (l : Limits) → n ≤ 8 → length (limitsText n l) ≤ 1024
 unfolding limitsText
 limits-length n l h =
     simp length-append
@@ -74,11 +74,11 @@ limits-length n l h =
       range-length (l .full),
     ))
 
-refusal-length : (r : Refusal) → length (refusalText r) ≤ 1024
+pub refusal-length : (r : Refusal) → length (refusalText r) ≤ 1024
 unfolding refusalText
 refusal-length r = omega (arith, refused-length (numberOf r) (placeOf r))
 
-unless-length : (o : Outcome) (t : List ℕ) → (o ≡ Accepted → length t ≤ 1024) → length (unlessRefused o t) ≤ 1024
+pub unless-length : (o : Outcome) (t : List ℕ) → (o ≡ Accepted → length t ≤ 1024) → length (unlessRefused o t) ≤ 1024
 unless-length Accepted t h = h refl
 unless-length (Refused r) t h = refusal-length r
 
@@ -91,7 +91,7 @@ loading-length : (l : Loading) (s : List ℕ) → (l .outcome ≡ Accepted → l
 loading-length l s h =
     unless-length (l .outcome) (ratedText (l .engine) (boxLines 8 [] s)) (λ a. rated-length (l .engine) (boxLines 8 [] s) (h a))
 
-pub answer-length : (s : List ℕ) → length (answerOf s) ≤ 1024
+answer-length : (s : List ℕ) → length (answerOf s) ≤ 1024
 unfolding answerOf sheetOf
 answer-length s =
     let end = sheetLength box true s in
@@ -103,9 +103,11 @@ answer-length s =
     go false t h = refusal-length (Load TooLong)
 
 -- so nothing is cut off
-pub answer-whole : (s : List ℕ) → take (written (answerOf s) .len) (written (answerOf s) .bytes) ≡ answerOf s
+pub written-whole : (t : List ℕ) → length t ≤ 1024 → take (written t .len) (written t .bytes) ≡ t
 unfolding written
-answer-whole s =
-    let t = answerOf s in
-    let a : take 1024 t ≡ t = take-all 1024 t (answer-length s) in
+written-whole t h =
+    let a : take 1024 t ≡ t = take-all 1024 t h in
     rw a (take-at t (replicate (1024 - length t) 0) (length t) refl)
+
+pub answer-whole : (s : List ℕ) → take (written (answerOf s) .len) (written (answerOf s) .bytes) ≡ answerOf s
+answer-whole s = written-whole (answerOf s) (answer-length s)

@@ -5,6 +5,7 @@ ghost use mathlib.Core.Bool.{true};
 ghost use mathlib.Core.List.{[], _++_};
 ghost use Prim.Native.Nat.{_+_, _≤_, _<_};
 ghost use lib.ListN.{length, drop};
+ghost use Rattle.range.specs.Sums as Sums;
 ghost use Rattle.engine.specs.Engine.{ratedOf};
 ghost use Rattle.writer.specs.Lent.{lent, putText};
 ghost use Rattle.text.specs.Input.{isLine, sheetLength, boxLines};
@@ -57,9 +58,8 @@ fn range_fields(bytes: &mut [u8], at: usize, x: Range) -> usize
     writer::byte(bytes, high, LINE_END)
 }
 
-// The slope of the factor a, counted from 0.
+// The slope of the factor a, counted from 0, which is x.
 fn slope_line(bytes: &mut [u8], at: usize, a: u8, x: Range) -> usize
-    requires { ⌜ a < 8 ⌝ }
     ensures { λ r. ⌜ lent (now (bytes .exit)) r ≡ putText (lent (now (bytes .entry)) at) (slope ++ (naturalField (a + 1) ++ rangeFields x)) ⌝ }
 {
     let begun = writer::word(bytes, at, b"slope");
@@ -67,15 +67,25 @@ fn slope_line(bytes: &mut [u8], at: usize, a: u8, x: Range) -> usize
     range_fields(bytes, numbered, x)
 }
 
+// The slope of the factor a, counted from 0. There are eight: of a further one it is zero.
+fn slope_of(gradient: [Range; 8], a: u8) -> Range
+    ensures { λ r. ⌜ r ≡ Sums.at gradient a ⌝ }
+{
+    if a < 8 {
+        gradient[a as usize]
+    } else {
+        Range::ZERO
+    }
+}
+
 // The slopes of the first n factors.
 fn slope_lines(bytes: &mut [u8], at: usize, n: u8, gradient: [Range; 8]) -> usize
-    requires { ⌜ n ≤ 8 ⌝ }
     ensures { λ r. ⌜ lent (now (bytes .exit)) r ≡ putText (lent (now (bytes .entry)) at) (slopeLines n gradient) ⌝ }
 {
     let mut to = at;
     let mut a: u8 = 0;
     while a < n {
-        to = slope_line(bytes, to, a, gradient[a as usize]);
+        to = slope_line(bytes, to, a, slope_of(gradient, a));
         a += 1;
     }
     to
@@ -99,8 +109,7 @@ fn set_fields(bytes: &mut [u8], at: usize, set: u8) -> usize
 }
 
 // The text of a result for n factors.
-fn limits(bytes: &mut [u8], at: usize, n: u8, l: Limits) -> usize
-    requires { ⌜ n ≤ 8 ⌝ }
+pub fn limits(bytes: &mut [u8], at: usize, n: u8, l: Limits) -> usize
     ensures { λ r. ⌜ lent (now (bytes .exit)) r ≡ putText (lent (now (bytes .entry)) at) (limitsText n l) ⌝ }
 {
     let value = l.value;
@@ -166,14 +175,14 @@ pub fn sheet_end(s: &[u8], w: &[u8]) -> usize
 }
 
 // The numbers of the box lines: `good` is false where a line has another form, or where there are more than eight.
-struct Boxes {
-    good: bool,
-    count: usize,
-    ends: [i64; 16],
+pub struct Boxes {
+    pub good: bool,
+    pub count: usize,
+    pub ends: [i64; 16],
 }
 
 // The box lines from a place on.
-fn box_lines(s: &[u8], from: usize) -> Boxes
+pub fn box_lines(s: &[u8], from: usize) -> Boxes
     ensures { λ r. ⌜ numbersOf r ≡ boxLines 8 [] (drop from (now (s .entry))) ⌝ }
     ensures { λ r. ⌜ r .count ≤ 16 ⌝ }
 {
@@ -226,7 +235,6 @@ fn rated(engine: Engine, ranges: &[i64], times: u64) -> Rating
 
 // The text of a rating for n factors.
 fn rating(bytes: &mut [u8], at: usize, n: u8, x: Rating) -> usize
-    requires { ⌜ n ≤ 8 ⌝ }
     ensures { λ r. ⌜ lent (now (bytes .exit)) r ≡ putText (lent (now (bytes .entry)) at) (ratingText n x) ⌝ }
 {
     let outcome = x.outcome;
@@ -239,7 +247,6 @@ fn rating(bytes: &mut [u8], at: usize, n: u8, x: Rating) -> usize
 
 // The text of the ratings of the box lines.
 fn ratings(bytes: &mut [u8], at: usize, engine: Engine, boxes: Boxes, times: u64) -> usize
-    requires { ⌜ engine .codelist .factors ≤ 8 ⌝ }
     requires { ⌜ boxes .count ≤ 16 ⌝ }
     ensures { λ r. ⌜ lent (now (bytes .exit)) r ≡ putText (lent (now (bytes .entry)) at) (ratedText engine (numbersOf boxes)) ⌝ }
 {

@@ -10,7 +10,7 @@ use Rattle.writer.specs.Lent.{lent, putText}
 use Rattle.text.specs.Input.{box}
 use Rattle.text.specs.Boxes.{numbersOf}
 use Rattle.text.proofs.Splitting.{sheetLength-≤}
-use Rattle.text.proofs.Answering.{too-long, few-factors, loaded, not-loaded}
+use Rattle.text.proofs.Answering.{too-long, loaded, not-loaded}
 use Rattle.text.proofs.output.Statement.{statement}
 use Rattle.text.proofs.output.Tie as tie
 
@@ -32,16 +32,7 @@ add-box-lines : tie.Need-add-box-lines
 add-box-lines c = omega (arith, within (c .before .before .before .before .before .before .before))
 
 ratings-requires : tie.Need-ratings-requires
-ratings-requires c κs =
-    let told = c .before .before in
-    let l = told .before .before .before in
-    let n = l .before .before in
-    let e = n .before in
-    let s = e .before .before .before .before .before .args .input .now in (
-      few-factors s (e .sheet-end .result) (e .sheet-end .ensures) (n .new .result) (n .new .ensures) (l .load .result) (l .load .ensures)
-          (told .enum-told .given .1),
-      c .box-lines .ensures .1,
-    )
+ratings-requires c κs = c .box-lines .ensures .1
 
 returns-2 : tie.Need-returns-2
 returns-2 c =

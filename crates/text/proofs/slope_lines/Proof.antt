@@ -2,7 +2,6 @@
 use Prim.Native.Nat.{_-_, _≤_}
 use mathlib.Core.Path.{_≡_, _∙_}
 use native.Mathlib.Omega.{arith}
-use lib.ListN.{length}
 use borrow.Author.Needs.{needs}
 use Rattle.writer.specs.Lent.{lent, putText}
 use Rattle.writer.proofs.Writing.{kept-length}
@@ -12,26 +11,26 @@ use Rattle.text.proofs.slope_lines.Statement.{statement}
 use Rattle.text.proofs.slope_lines.Tie as tie
 
 abbrev Inv-loop : tie.InvT-loop
-Inv-loop bytes₀ at n gradient to₀ a₀ bytes to a =
-    (a ≤ n) × (length gradient ≡ 8) × (lent bytes to ≡ putText (lent bytes₀ at) (slopeLines a gradient))
+Inv-loop bytes₀ at n gradient to₀ a₀ bytes to a = (a ≤ n) × (lent bytes to ≡ putText (lent bytes₀ at) (slopeLines a gradient))
 
 abbrev μ-loop : tie.MeasureT-loop
 μ-loop bytes₀ at n gradient to₀ a₀ bytes to a = n - a
 
 loop-holds : tie.Need-loop-holds Inv-loop μ-loop
-loop-holds c = (search needs, search needs, slopes-start _ _)
+loop-holds c = (search needs, slopes-start _ _)
 
 loop-again : tie.Need-loop-again Inv-loop μ-loop
 loop-again c =
     let s = c .before .before in
-    let l = s .before .before .before .before .loop in
-    (search needs, l .inv .1, slope-next _ _ _ _ _ (l .inv .2) (s .slope-line .ensures))
+    let slope = s .before in
+    let l = slope .before .before .before .loop in
+    (search needs, slope-next _ _ _ _ _ (l .inv .1) (rw (slope .slope-of .ensures) at (s .slope-line .ensures)))
 
 returns : tie.Need-returns Inv-loop μ-loop
 returns c =
     let l = c .before .loop in
     let n : l .a ≡ c .before .before .before .args .n = omega (arith, l .inv .0, c .loop-test .left) in
-    l .inv .2 ∙ rw n
+    l .inv .1 ∙ rw n
 
 same-length : tie.Need-same-length Inv-loop μ-loop
 same-length c = kept-length _ _ _ (returns c)
@@ -43,9 +42,7 @@ slope-lines-spec =
     Inv-loop
     μ-loop
     loop-holds
-    (λ c. search needs)
-    (λ c. search needs)
-    (λ c. search needs)
+    (λ c κs. search needs)
     (λ c κs. search needs)
     (λ c. search needs)
     (λ c. search needs)

@@ -12,7 +12,7 @@ use Rattle.rules.specs.declared.Refusal.{Refusal}
 use Rattle.rules.specs.declared.Refusal.the-variants.{NoCodelist}
 use Rattle.rules.specs.Run.{linesOf}
 use Rattle.rules.specs.Rate.{refused, pairs, finished, rateOf}
-use Rattle.bounds.proofs.Ranges.{pairs-count, none-bad}
+use Rattle.bounds.proofs.Ranges.{pairs-count, bad-few, none-bad}
 use Rattle.bounds.proofs.Running as R
 use Rattle.bounds.proofs.Running.{Ran}
 use Rattle.bounds.proofs.Answers.{no-codelist, or-no-codelist, bad-count, bad-range, all-lines}
@@ -70,8 +70,13 @@ returns c = c .refuse .ensures ∙ no-codelist _ _ (not-counted _ (not-true (inB
 returns-2 : tie.Need-returns-2 Inv-loop μ-loop
 returns-2 c = c .refuse-ratable .ensures ∙ or-no-codelist _ _ _ (λ w. bad-count _ _ w (c .before .if2 .taken))
 
-first-bad-requires : tie.Need-first-bad-requires Inv-loop μ-loop
-first-bad-requires c κs = pairs-count (c .before .before .args .xs .now) _ (c .if2 .left)
+-- the lowest bad range is that of one of the factors
+cast-t29 : tie.Need-cast-t29 Inv-loop μ-loop
+cast-t29 c =
+    let bad = c .before in
+    let counts = bad .before .before in
+    let xs = counts .before .args .xs .now in
+    omega (arith, bad .first-bad .ensures, bad-few 0 (pairs xs), pairs-count xs _ (bad .before .if2 .left), R.counts (counted counts) .factors .1)
 
 returns-3 : tie.Need-returns-3 Inv-loop μ-loop
 returns-3 c =
@@ -104,11 +109,11 @@ inverts-zero-requires c κs =
     let p = going (w .before .before) in
     (R.well p _ _ (w .is-op-well-formed .ensures) (not-false _ (c .before .if4 .left)), R.inside p)
 
-cast-t44 : tie.Need-cast-t44 Inv-loop μ-loop
-cast-t44 c = omega (arith, R.inside (going (turn (c .before))))
+cast-t45 : tie.Need-cast-t45 Inv-loop μ-loop
+cast-t45 c = omega (arith, R.inside (going (turn (c .before))))
 
-add-t45 : tie.Need-add-t45 Inv-loop μ-loop
-add-t45 c = omega (arith, R.inside (going (turn (c .before))))
+add-t46 : tie.Need-add-t46 Inv-loop μ-loop
+add-t46 c = omega (arith, R.inside (going (turn (c .before))))
 
 returns-5 : tie.Need-returns-5 Inv-loop μ-loop
 returns-5 c =
@@ -123,11 +128,11 @@ work-requires c κs =
     let p = going (w .before .before) in
     (R.well p _ _ (w .is-op-well-formed .ensures) (not-false _ (test .if4 .left)), (p .ran .ready, R.inside p))
 
-cast-t50 : tie.Need-cast-t50 Inv-loop μ-loop
-cast-t50 c = omega (arith, R.inside (going (turn (c .before .before .before .before .before .before))))
+cast-t51 : tie.Need-cast-t51 Inv-loop μ-loop
+cast-t51 c = omega (arith, R.inside (going (turn (c .before .before .before .before .before .before))))
 
-add-t51 : tie.Need-add-t51 Inv-loop μ-loop
-add-t51 c = omega (arith, R.inside (going (turn (c .before .before .before .before .before .before))))
+add-t52 : tie.Need-add-t52 Inv-loop μ-loop
+add-t52 c = omega (arith, R.inside (going (turn (c .before .before .before .before .before .before))))
 
 returns-6 : tie.Need-returns-6 Inv-loop μ-loop
 returns-6 c =
@@ -177,7 +182,8 @@ answer-spec =
     (λ c. search needs)
     (λ c κs. search needs)
     returns-2
-    first-bad-requires
+    (λ c κs. search needs)
+    cast-t29
     (λ c κs. search needs)
     returns-3
     start-requires
@@ -190,13 +196,13 @@ answer-spec =
     (λ c κs. search needs)
     returns-4
     inverts-zero-requires
-    cast-t44
-    add-t45
+    cast-t45
+    add-t46
     (λ c κs. search needs)
     returns-5
     work-requires
-    cast-t50
-    add-t51
+    cast-t51
+    add-t52
     (λ c κs. search needs)
     returns-6
     (λ c. search needs)

@@ -1,0 +1,6 @@
+-- the first line, and the answer put together
+pub mod FirstLine
+pub mod Answering
+-- specs/Promises
+pub mod Lengths
+pub mod Promises

@@ -1,0 +1,5 @@
+-- The program's input and output as functions of its bytes: Input, Output, Answer. Promises says what is promised of them.
+pub mod Input
+pub mod Output
+pub mod Answer
+pub mod Promises
