@@ -1,8 +1,9 @@
 #!/usr/bin/env python3
-"""Times ratings of the proved engine beside plain C, and pages of boats beside ratings, on the sheets of bench/sheets.
+"""Times ratings of the proved engine beside plain C, and pages of boats and classes cut finer beside ratings, on the sheets of bench/sheets.
 
 bench/bench.py PATH_TO_RATE_MANY [PATH_TO_AN_EARLIER_ONE]
 bench/bench.py --pages PATH_TO_RATE_MANY
+bench/bench.py --cuts PATH_TO_RATE_MANY
 
 PATH N < SHEET loads the sheet once and rates it N times; bench/reference.c, built here with cc -O3, does the same. Both run in turn.
 Nanoseconds are the least processor time of all rounds, and the ratio is that of the two; the median is that of the rounds' own ratios, which a busy
@@ -12,6 +13,10 @@ timed beside the engine in the same way, sheet by sheet; what it prints is not c
 PATH N numbers < FLEET and PATH N boats < FLEET read a sheet and its boats once and make the fleet page N times (02, request 3), from a flat slice of
 numbers and from a slice of structs. A page of 1,000 boats is timed in the same way, beside ratings of the middle of the class, a class of one point.
 --pages times the pages alone.
+
+PATH N cut < CLASS reads a sheet and its ranges once and rates the class N times to the depth that its first line gives (02, request 6). Each depth is
+timed in the same way, beside ratings of the uncut class; what is compared is the time of a part, the whole call's over 2 to the depth. --cuts times the
+cuts alone.
 """
 import argparse
 import os
@@ -33,6 +38,9 @@ FORMS = {"numbers": "numbers", "structs": "boats"}  # the forms of a list of boa
 RECORD = 8  # numbers of a boat
 BOATS = 1000  # of a page
 MOST_PER_BOAT = 1.1  # the bar: the time of a boat on a page, in plain ratings of the same point
+DEPTHS = range(7)  # to which a class can be cut
+MOST_PER_PART = 1.25  # the bar: the time of a part, in plain ratings of the uncut class, by the geometric mean
+MOST_PER_PART_OF_A_CLASS = 1.5  # and on each class
 STEPS = (1, 3, 7, 9, 11, 13, 17, 19)  # a factor each, none with a divisor in common with BOATS
 
 
@@ -58,11 +66,11 @@ def run(program, times, sheet, *job):
         return used.ru_utime + used.ru_stime, printed.read()
 
 
-def peak_memory(program, sheet, times):
+def peak_memory(program, sheet, times, *job):
     """The most memory held at once, in KiB, from the system's count for the running process. The rusage of a child will not do: it keeps
     the size of the process that started it."""
     with open(sheet, "rb") as given:
-        process = subprocess.Popen([program, str(times)], stdin=given, stdout=subprocess.DEVNULL)
+        process = subprocess.Popen([program, str(times), *job], stdin=given, stdout=subprocess.DEVNULL)
         peak = 0
         while process.poll() is None:
             try:
@@ -79,7 +87,7 @@ class Timed:
 
     def __init__(self, program, sheet, *job):
         self.program, self.sheet, self.job = program, sheet, job
-        self.times = 64
+        self.times = 16
         while (used := run(program, self.times, sheet, *job)[0]) < LONG_RUN / 4 and self.times < 1 << 26:
             self.times *= 4
         self.times = max(2, int(self.times * LONG_RUN / max(used, 1e-4)))
@@ -91,7 +99,7 @@ class Timed:
         self.long.append(used)
 
     def nanoseconds(self):
-        """Per rating or page, for each round."""
+        """Per rating, page or cut, for each round."""
         start = min(self.short)
         return [max(used - start, 1e-9) / (self.times - 1) * 1e9 for used in self.long]
 
@@ -259,21 +267,79 @@ def page_tables(sheets, engine, folder):
         means(rows)
 
 
+class Cuts:
+    """Ratings of a class, and the class cut to each depth."""
+
+    def __init__(self, engine, sheet, folder):
+        self.sheet, self.rating = sheet, Timed(engine, sheet)
+        self.depths = []
+        for depth in DEPTHS:
+            path = Path(folder) / f"{sheet.stem}-depth-{depth}.txt"
+            path.write_text(f"depth\t{depth}\n{sheet.read_text()}")
+            self.depths.append(Timed(engine, path, "cut"))
+
+    def round(self):
+        self.rating.round()
+        for timed in self.depths:
+            timed.round()
+        if any(timed.printed.startswith(b"refused") for timed in (self.rating, *self.depths)):
+            sys.exit(f"{self.sheet.name}: a cut is refused")
+        if self.depths[0].printed != self.rating.printed:
+            sys.exit(f"{self.sheet.name}: depth 0 prints another result than the rating")
+
+    def rows(self):
+        """For each depth the nanoseconds of a part beside those of a rating."""
+        plain = self.rating.nanoseconds()
+        for depth, timed in zip(DEPTHS, self.depths):
+            part = [whole / 2**depth for whole in timed.nanoseconds()]
+            yield Row(*shape(self.sheet), min(part), min(plain), min(part) / min(plain), statistics.median(x / y for x, y in zip(part, plain)))
+
+
+def cut_table(sheets, engine, folder):
+    """The seven depths side by side: the time of a part over that of a rating. All run in turn, as in `measure`."""
+    print(f"\nClasses cut finer, the time of a part in plain ratings\n{'sheet':<12}{'factors':>8}{'lines':>6}{'rating ns':>10}", end="")
+    print("".join(f"{f'depth {depth}':>9}" for depth in DEPTHS) + f"{'depth 6 µs':>12}", flush=True)
+    timed = [Cuts(engine, sheet, folder) for sheet in sheets]
+    for _ in range(ROUNDS):
+        for each in timed:
+            each.round()
+    table_rows = [list(each.rows()) for each in timed]
+    for each, rows in zip(timed, table_rows):
+        print(f"{each.sheet.stem:<12}{rows[0].factors:>8}{rows[0].lines:>6}{rows[0].plain:>10.0f}", end="")
+        print("".join(f"{row.ratio:>9.3f}" for row in rows) + f"{rows[-1].engine * 2**DEPTHS[-1] / 1e3:>12.1f}")
+    for name in ("ratio", "median"):
+        print(f"{'mean, ' + name:<36}" + "".join(f"{geometric_mean(getattr(row, name) for row in rows):>9.3f}" for rows in zip(*table_rows)))
+    by_depth = list(zip(*table_rows))
+    mean = max(geometric_mean(row.ratio for row in rows) for rows in by_depth)
+    greatest = max(row.ratio for rows in by_depth for row in rows)
+    print(f"  by the mean {'at most' if mean <= MOST_PER_PART else 'ABOVE'} {MOST_PER_PART} ratings a part: {mean:.3f}")
+    print(f"  on each class {'at most' if greatest <= MOST_PER_PART_OF_A_CLASS else 'ABOVE'} {MOST_PER_PART_OF_A_CLASS}: {greatest:.3f}")
+    deepest = max(timed, key=lambda each: shape(each.sheet)[::-1])
+    print(f"\nPeak memory on {deepest.sheet.stem}")
+    for name, each in (("a rating", deepest.rating), ("cut to depth 6", deepest.depths[-1])):
+        print(f"  {name}: {peak_memory(engine, each.sheet, 4 * each.times, *each.job)} KiB")
+
+
 def main():
     parser = argparse.ArgumentParser(description=__doc__, formatter_class=argparse.RawDescriptionHelpFormatter)
     parser.add_argument("engine", metavar="PATH_TO_RATE_MANY", type=Path)
     parser.add_argument("earlier", metavar="PATH_TO_AN_EARLIER_ONE", type=Path, nargs="?")
     parser.add_argument("--pages", action="store_true", help="pages of boats alone")
+    parser.add_argument("--cuts", action="store_true", help="classes cut finer alone")
     arguments = parser.parse_args()
-    if arguments.pages and arguments.earlier:
-        parser.error("--pages takes no earlier build: it would have to know the fleet page")
+    alone = arguments.pages or arguments.cuts
+    if alone and arguments.earlier:
+        parser.error("--pages and --cuts take no earlier build: it would have to know the fleet page, and the cut")
     engine = arguments.engine.resolve()
     all_sheets = sorted(SHEETS.glob("*.txt"), key=lambda sheet: (shape(sheet), sheet.stem))
     classes = [sheet for sheet in all_sheets if not sheet.stem.startswith("growth-")]
     with tempfile.TemporaryDirectory() as folder:
-        if not arguments.pages:
+        if not alone:
             rating_tables(all_sheets, classes, engine, arguments.earlier, folder)
-        page_tables(classes, engine, folder)
+        if arguments.pages or not alone:
+            page_tables(classes, engine, folder)
+        if arguments.cuts or not alone:
+            cut_table(classes, engine, folder)
 
 
 if __name__ == "__main__":

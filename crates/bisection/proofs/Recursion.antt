@@ -1,10 +1,12 @@
 -- What holds of the limits of the parts, hulled: `parts-fine`, by induction over the depth. Assumes nothing.
 use mathlib.Core.Path.{_≡_, refl, sym, ap, subst, _∙_}
-use mathlib.Core.Bool.{Bool, true, false, cond}
+use mathlib.Core.Bool.{Bool, true, false, cond, _||_}
 use mathlib.Core.List.{List}
 use mathlib.Core.Logic.{_⊎_, inl, inr}
 use Prim.Native.Nat.{ℕ, zero, suc, _-_, _≤_}
 use native.Mathlib.Omega.{arith}
+use borrow.Author.Tests.{ne-eqb}
+use lib.Dec.{eqb}
 use lib.IntN.{ℤ}
 use Rattle.codelist.specs.declared.Codelist.{Codelist}
 use Rattle.range.specs.declared.Range.{Range}
@@ -27,21 +29,26 @@ use Rattle.bisection.proofs.Wider.{wider-sound, hull-first, hull-second
 use Rattle.bisection.proofs.Plain.{Ready, ready-part, plain-is, plain-sound, plain-shaped, plain-valid, plain-lifted}
 
 -- ---- one step
-pub depth-none : (d : ℕ) (c : Codelist) (rs : List Range) → d ≡ 0 → parts d c rs ≡ rateRanges c rs 0
-unfolding parts
-depth-none zero c rs e = refl
-depth-none (suc d) c rs e = absurd (omega arith)
-
 pub narrow-parts : (d : ℕ) (c : Codelist) (rs : List Range) → narrow rs ≡ true → parts d c rs ≡ rateRanges c rs 0
 unfolding parts
 narrow-parts zero c rs w = refl
 narrow-parts (suc d) c rs w = rw w
 
-pub wide-parts : (d : ℕ) (c : Codelist) (rs : List Range) → ¬ (d ≡ 0) → narrow rs ≡ false
+-- as the code tests: plain rating at depth 0, or where the widest range is narrow
+pub whole-parts : (d : ℕ) (c : Codelist) (rs : List Range) → (eqb d 0 || narrow rs) ≡ true → parts d c rs ≡ rateRanges c rs 0
+unfolding parts
+whole-parts zero c rs w = refl
+whole-parts (suc d) c rs w = let w : narrow rs ≡ true = rw (ne-eqb (suc d) 0 (λ e. omega arith)) at w in rw w
+
+pub neither : (a b : Bool) → (a || b) ≡ false → (a ≡ false) × (b ≡ false)
+neither true b e = (e, absurd (let z : _≡_ {A = ℕ} 0 1 = cc in omega arith))
+neither false b e = (refl, e)
+
+pub cut-parts : (d : ℕ) (c : Codelist) (rs : List Range) → (eqb d 0 || narrow rs) ≡ false
     → parts d c rs ≡ hulled (parts (d - 1) c (lowerPart rs)) (parts (d - 1) c (upperPart rs))
 unfolding parts
-wide-parts zero c rs n w = absurd (n refl)
-wide-parts (suc d) c rs n w = let e : suc d - 1 ≡ d = omega arith in rw (w, e)
+cut-parts zero c rs w = absurd (let z : _≡_ {A = ℕ} 0 1 = cc in omega arith)
+cut-parts (suc d) c rs w = let e : suc d - 1 ≡ d = omega arith in rw (neither (eqb (suc d) 0) (narrow rs) w .1, e)
 
 -- ---- which hulls are limits
 pub record Both (x y : Rating) (l : Limits) : Type 0 where
