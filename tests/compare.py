@@ -37,6 +37,7 @@ from figures import FIGURES, REPORTED, TIDIED
 from fleet_page import FleetComparison
 from generate import box_text, case
 from orders import ORDERS, cases, orders_of
+from reference.cut import cut_printed
 from reference.exact import TooLarge, broken_promises
 from reference.fleet import Fleet, fleet_printed
 from reference.outcome import Refusal
@@ -292,6 +293,7 @@ PRINTS = {
     "rate": lambda text: printed(run(text).answer),
     "tidy": tidy_printed,
     "fleet": lambda text: fleet_printed(Fleet().run(text)),
+    "cut": cut_printed,
 }
 
 

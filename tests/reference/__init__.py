@@ -7,4 +7,5 @@ exact.py   the exact side, and what a result promises of it
 text.py    the program `rate`: from the bytes of its input to the bytes it prints
 tidy.py    02, request 1: tidied sheets, and the program `tidy`
 fleet.py   02, request 3: figures over a list of boats, and the program `fleet`
+cut.py     02, request 6: rating to a depth, and the program `cut`
 """

@@ -237,10 +237,8 @@ class Rules(Arithmetic):
         return Result(line.value, line.slopes, line.depends, line.bent, line.bend, full)
 
 
-def rate(sheet, ends, rules=Rules, note=unnoted):
-    """The result of ranges, their ends as a flat list, against a sheet (None: the desk is empty), or the first refusal."""
-    if sheet is None:
-        refuse(10, 0)
+def ranges_of(sheet, ends, note=unnoted):
+    """The ranges whose ends are a flat list, or refusal 8 or 9."""
     if len(ends) != 2 * sheet.factors:
         note("8: number")
         refuse(8, 0)
@@ -252,8 +250,20 @@ def rate(sheet, ends, rules=Rules, note=unnoted):
         if r.low < -LIMIT or r.high > LIMIT:
             note("9: low end beyond the limit" if r.low < -LIMIT else "9: high end beyond the limit")
             refuse(9, factor)
+    return ranges
+
+
+def rate_ranges(sheet, ranges, rules=Rules, note=unnoted):
+    """The result of ranges that 8 and 9 are not due for, or refusal 11 or 12."""
     table = rules(sheet.factors, note)
     lines = [table.factor(a, r) for a, r in enumerate(ranges)]
     for operation in sheet.operations:
         lines.append(table.line(operation, lines))
     return table.result(lines[-1])
+
+
+def rate(sheet, ends, rules=Rules, note=unnoted):
+    """The result of ranges, their ends as a flat list, against a sheet (None: the desk is empty), or the first refusal."""
+    if sheet is None:
+        refuse(10, 0)
+    return rate_ranges(sheet, ranges_of(sheet, ends, note), rules, note)
