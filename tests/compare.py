@@ -1,21 +1,23 @@
 #!/usr/bin/env python3
-"""Compares the programs `rate`, `tidy` and `fleet` with the papers' rules over unlimited whole numbers and exact fractions (tests/reference).
+"""Compares the programs `rate`, `tidy`, `fleet` and `cut` with the papers' rules over unlimited whole numbers and exact fractions (tests/reference).
 
-tests/compare.py --binary PATH [--tidy PATH [--tidy-into PATH]] [--fleet PATH [--rate-many PATH]] [--seed N] [--count N] [--dead-lines N]
-        [--fleets N] [--jobs N]
+tests/compare.py --binary PATH [--tidy PATH [--tidy-into PATH]] [--fleet PATH] [--cut PATH] [--rate-many PATH] [--seed N] [--count N]
+        [--dead-lines N] [--fleets N] [--cuts N] [--jobs N]
     `rate`: the figures of the papers, the examples, inputs that two refusals fit, and random ones: every printed byte; the bends beside those
     with each square rounded (02, request 2) and those without special cases of a product (request 4), which must be no narrower; for a share of the
     accepted random ones also the exact premium and its derivatives, as fractions, at a point inside the ranges
     `tidy`: the sheets of all these, and sheets with dead lines put in (dead_lines.py): every printed byte, and `rate` of the tidied sheet
     `tidy_into`: a share of them, with buffers that are too short, just long enough and longer: the outcome and every byte of the buffer
     `fleet`: lists of boats (fleets.py), the figures of the request and the example: every printed byte
-    `rate_many`: the same lists, by the other form in which boats are handed over
+    `cut`: classes that are cut finer (cuts.py), the figures of the request and the examples: every printed byte; of what is printed also that a deeper
+    cut is no wider, and for a share the exact premium and its derivatives, at cut points among others (cutting.py)
+    `rate_many`: the lists of `fleet`, by the other form in which boats are handed over, and a share of the inputs of `cut`, each made a few times
 tests/compare.py --self-test VECTORS [--program NAME]
     the reference alone against a file of vectors, one JSON object a line with "input" (hex) and "expected"; the program is the one that is named, or
     else the vector's "kind", or `rate` where that is no program's name
 
 Fails, too, where a rule, a refusal, a wrong rule of errors.py or an order of two refusals (orders.py) was never met, or less often than it has to be
-(fleet_page.py). The same seed gives the same inputs, for any number of processes that they are dealt out to (--jobs). The closing line counts each
+(fleet_page.py, cutting.py). The same seed gives the same inputs, for any number of processes that they are dealt out to (--jobs). The closing line counts each
 input once for each program.
 """
 import argparse
@@ -28,12 +30,14 @@ import sys
 import tempfile
 from pathlib import Path
 
+import cuts
 import dead_lines
 import fleets
+from cutting import CutComparison
 from errors import (
     ERRORS, LOADING_ERRORS, SPECIAL_ERRORS, SPECIAL_STEPS, STEPS, ZERO_FIELD, CasesNotApplied, SquaresRoundedEachInCross, SquaresRoundedEachInSq,
     uncounted)
-from figures import FIGURES, REPORTED, TIDIED
+from figures import FIGURES, LIMITED, REPORTED, TIDIED
 from fleet_page import FleetComparison
 from generate import box_text, case
 from orders import ORDERS, cases, orders_of
@@ -53,6 +57,7 @@ EXAMPLES = Path(__file__).resolve().parent.parent / "examples"
 EXACT_SHARE = 0.5
 ORDER_ROUNDS = 3  # inputs for each order
 FLEET_ROUNDS = 3  # inputs for each way in which a list of boats is refused, and for each of its edges
+CUT_ROUNDS = 2  # inputs for each way in which a first line is refused, for each order behind one, and for each edge
 
 SPECIAL_CASES = ["mul, case 4", "mul, case 7", "mul, case 10"]
 
@@ -289,6 +294,24 @@ def fixed_fleet_inputs(seed):
             yield f"'{name}', {number}", text, None
 
 
+def cut_inputs(seed, count, share):
+    """Inputs of `cut`: a name, the bytes, and the print where it is written down."""
+    yield from [*fixed_cut_inputs(seed)][share]
+    for number in range(count)[share]:
+        kind, text = cuts.case(random.Random(f"{seed}/cut/{number}"))
+        yield f"case {number} ({kind})", text, None
+
+
+def fixed_cut_inputs(seed):
+    for name, text, expected in LIMITED:
+        yield f"figure '{name}'", text, expected
+    for example in sorted(EXAMPLES.glob("*.cut")):
+        yield f"example '{example.stem}'", example.read_bytes(), example.with_suffix(".out").read_bytes()
+    for number in range(CUT_ROUNDS):
+        for name, text in cuts.cases(random.Random(f"{seed}/first/{number}")):
+            yield f"'{name}', {number}", text, None
+
+
 PRINTS = {
     "rate": lambda text: printed(run(text).answer),
     "tidy": tidy_printed,
@@ -320,11 +343,13 @@ def main():
     parser.add_argument("--tidy", help="the program `tidy`")
     parser.add_argument("--tidy-into", help="the program `tidy_into`, beside it")
     parser.add_argument("--fleet", help="the program `fleet`")
-    parser.add_argument("--rate-many", help="the program `rate_many`, beside it")
+    parser.add_argument("--cut", help="the program `cut`")
+    parser.add_argument("--rate-many", help="the program `rate_many`, beside `fleet` and `cut`")
     parser.add_argument("--seed", type=int, default=1)
     parser.add_argument("--count", type=int, default=6000, help="random inputs, beside the figures")
     parser.add_argument("--dead-lines", type=int, default=1500, help="random inputs with dead lines, where `tidy` is compared")
     parser.add_argument("--fleets", type=int, default=600, help="random lists of boats, where `fleet` is compared")
+    parser.add_argument("--cuts", type=int, default=1500, help="random classes that are cut, where `cut` is compared")
     parser.add_argument("--jobs", type=int, default=os.cpu_count() or 1, help="processes that the inputs are dealt out to")
     parser.add_argument("--self-test", metavar="VECTORS")
     parser.add_argument("--program", choices=PRINTS, help="whose vectors they are, if not their kind's")
@@ -333,7 +358,7 @@ def main():
         sys.exit(not self_test(arguments.self_test, arguments.program))
     if not arguments.binary:
         parser.error("--binary or --self-test")
-    for path in (arguments.binary, arguments.tidy, arguments.tidy_into, arguments.fleet, arguments.rate_many):
+    for path in (arguments.binary, arguments.tidy, arguments.tidy_into, arguments.fleet, arguments.cut, arguments.rate_many):
         if path and not Path(path).is_file():
             parser.error(f"no program {path}")
     if arguments.jobs < 1:
@@ -353,12 +378,16 @@ def compared(arguments, share):
     if tidying:
         for name, text, expected in tidy_inputs(arguments.seed, arguments.dead_lines, share):
             tidying.compare(name, text, rating.compare(name, text), expected)
-    numbers = Path(arguments.rate_many).resolve() if arguments.rate_many else None
-    paging = FleetComparison(Path(arguments.fleet).resolve(), numbers) if arguments.fleet else None
+    many = Path(arguments.rate_many).resolve() if arguments.rate_many else None
+    paging = FleetComparison(Path(arguments.fleet).resolve(), many) if arguments.fleet else None
     if paging:
         for name, text, expected in fleet_inputs(arguments.seed, arguments.fleets, share):
             paging.compare(name, text, expected)
-    return [comparison for comparison in (rating, tidying, paging) if comparison]
+    cutting = CutComparison(Path(arguments.cut).resolve(), many) if arguments.cut else None
+    if cutting:
+        for name, text, expected in cut_inputs(arguments.seed, arguments.cuts, share):
+            cutting.compare(name, text, expected)
+    return [comparison for comparison in (rating, tidying, paging, cutting) if comparison]
 
 
 def added_up(arguments):

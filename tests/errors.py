@@ -4,17 +4,20 @@ Of rating, the first five are the errors that 01 names at its end, then come the
 readings of sentences that decide a result, near misses of 02's request 2, the sum of squares, and of its request 4: of which products are
 special cases, of their bends, and of what is refused. Those of loading are near misses of request 5: of which lines are refused with 15, of its
 number and place, and of when it comes. Those of tidying (request 1) are near misses of what is used, what is kept and how it is renumbered; those
-of the fleet page (request 3), of what a boat is, of what is counted, summed and compared, and of which lists are taken.
+of the fleet page (request 3), of what a boat is, of what is counted, summed and compared, and of which lists are taken; those of classes cut finer
+(request 6), of which range is cut, where and how often, of what is made of the two halves, of which depths are taken, and of the first line.
 """
 import re
 from math import isqrt
 
+from reference.cut import DEPTH_LINE, Cutting
 from reference.fleet import MOST_INPUT, RECORD, Fleet, rated
 from reference.outcome import Refusal, Refused, refuse
 from reference.ranges import LIMIT, UNIT, ZERO, PastLimit, Range
-from reference.rating import SPECIAL_LIMIT, Result, Rules
-from reference.sheet import REFERENCES, Loading, Operation, load, sheet_text, text_lines
+from reference.rating import SPECIAL_LIMIT, Result, Rules, ranges_of
+from reference.sheet import MOST_BYTES, REFERENCES, Loading, Operation, load, sheet_text, text_lines
 from reference.text import MOST_INPUT as MOST_RATED
+from reference.text import parted
 from reference.tidy import Tidying, last_line, operation_at
 
 
@@ -1113,4 +1116,603 @@ FLEET_ERRORS = [
     ThousandRefused, ThousandAndOneTaken, FirstThousand, EmptyListRefused, NoLineForEmptyList, ListBeforeSheet, BytesBeforeSheet, TooManyBytesOne,
     BytesOfRate, LastLineParts, BlankLinesSkipped, LastByteForgiven, Byte13Forgiven, UnfinishedDropped, NinthDropped, LooseNumerals,
     TimesZeroReported, TimesZeroUnusedReported, ListBeforeTimesZero,
+]
+
+
+# ---- classes cut finer: the parts
+
+class UpperFromNext(Cutting):
+    """The upper part begun a unit above the cut point."""
+    def parts(self, r):
+        lower, upper = super().parts(r)
+        return lower, upper._replace(low=upper.low + 1)
+
+
+class LowerToBefore(Cutting):
+    """The lower part ended a unit below the cut point."""
+    def parts(self, r):
+        lower, upper = super().parts(r)
+        return lower._replace(high=lower.high - 1), upper
+
+
+class CutTowardZero(Cutting):
+    """Half the sum rounded toward zero."""
+    def cut_point(self, r):
+        return (r.low + r.high) // 2 if r.low + r.high >= 0 else -(-(r.low + r.high) // 2)
+
+
+class CutRoundedUp(Cutting):
+    """Half the sum rounded up."""
+    def cut_point(self, r):
+        return -(-(r.low + r.high) // 2)
+
+
+def in_32_bits(number):
+    return (number + 2 ** 31) % 2 ** 32 - 2 ** 31
+
+
+class CutOf32Bits(Cutting):
+    """The sum of the ends kept in 32 bits, and a cut point outside the range put at its nearer end."""
+    def cut_point(self, r):
+        return min(max(in_32_bits(r.low + r.high) // 2, r.low), r.high)
+
+
+class WidthOf32Bits(Cutting):
+    """The width kept in 32 bits."""
+    def width(self, r):
+        return in_32_bits(r.high - r.low)
+
+
+class HighestOnEqualWidth(Cutting):
+    """The highest factor cut on equal width."""
+    def widest(self, ranges):
+        return len(ranges) - 1 - super().widest(ranges[::-1])
+
+
+class FirstFactorCut(Cutting):
+    """Factor 1 cut, whatever the widths are."""
+    def widest(self, ranges):
+        return 0
+
+
+class WidestOnceForAll(Cutting):
+    """The widest of the uncut ranges cut again and again."""
+    chosen = None
+
+    def widest(self, ranges):
+        if self.chosen is None:
+            self.chosen = super().widest(ranges)
+        return self.chosen
+
+
+class FactorsInTurn(Cutting):
+    """The factors cut in turn."""
+    def rating(self, sheet, ranges, depth):
+        self.turn = -depth % len(ranges)
+        return super().rating(sheet, ranges, depth)
+
+    def widest(self, ranges):
+        return self.turn
+
+
+class FarthestCut(Cutting):
+    """The range cut that comes farthest from 0."""
+    def widest(self, ranges):
+        far = [max(abs(end) for end in r) for r in ranges]
+        return far.index(max(far))
+
+
+class TwoUnitsUncut(Cutting):
+    """A widest range of 2 units not cut."""
+    narrow = 3
+
+
+class OneUnitCut(Cutting):
+    """A widest range of 1 unit cut. The upper part is then the range itself, so that only a refusal of the lower one tells."""
+    narrow = 1
+
+
+class AnyNarrowUncut(Cutting):
+    """Nothing cut where any range is under 2 units, and not the widest one."""
+    def uncut(self, ranges, depth):
+        return depth == 0 or min(map(self.width, ranges)) < self.narrow
+
+
+# ---- classes cut finer: the depth
+
+class OneTooMany(Cutting):
+    """One depth too many."""
+    def uncut(self, ranges, depth):
+        return super().uncut(ranges, depth + 1)
+
+
+class OneTooFew(Cutting):
+    """One depth too few."""
+    def uncut(self, ranges, depth):
+        return super().uncut(ranges, max(depth - 1, 0))
+
+
+class CutOnce(Cutting):
+    """The halves not cut again."""
+    def left(self, depth):
+        return 0, 0
+
+
+class LowerOnce(Cutting):
+    """The lower half not cut again."""
+    def left(self, depth):
+        return 0, depth - 1
+
+
+class UpperOnce(Cutting):
+    """The upper half not cut again."""
+    def left(self, depth):
+        return depth - 1, 0
+
+
+class DepthKept(Cutting):
+    """The depth not falling in a half, where the ranges are narrow enough to be cut to the end."""
+    few_units = 12
+    narrow_now = False
+
+    def uncut(self, ranges, depth):
+        self.narrow_now = sum(map(self.width, ranges)) <= self.few_units
+        return super().uncut(ranges, depth)
+
+
+class LowerDepthKept(DepthKept):
+    """The depth not falling in the lower half."""
+    def left(self, depth):
+        return depth - (not self.narrow_now), depth - 1
+
+
+class UpperDepthKept(DepthKept):
+    """The depth not falling in the upper half."""
+    def left(self, depth):
+        return depth - 1, depth - (not self.narrow_now)
+
+
+# ---- classes cut finer: the answer
+
+class UpperRefusalFirst(Cutting):
+    """A refusal of the upper half ahead of one of the lower."""
+    def both(self, lower, upper):
+        return upper if isinstance(upper, Refusal) else super().both(lower, upper)
+
+
+class EarlierLineFirst(Cutting):
+    """Of two refusals the one at the earlier line, not the lower half's."""
+    def both(self, lower, upper):
+        if isinstance(lower, Refusal) and isinstance(upper, Refusal):
+            return min(lower, upper, key=lambda refusal: refusal.place)
+        return super().both(lower, upper)
+
+
+class DivisorFirst(Cutting):
+    """Of two refusals 11 ahead of 12, not the lower half's."""
+    def both(self, lower, upper):
+        if isinstance(lower, Refusal) and isinstance(upper, Refusal):
+            return min(lower, upper, key=lambda refusal: refusal.number)
+        return super().both(lower, upper)
+
+
+class RefusedHalfLeftOut(Cutting):
+    """A refused half left out, and the other one's answer given."""
+    def both(self, lower, upper):
+        return upper if isinstance(lower, Refusal) else lower if isinstance(upper, Refusal) else super().both(lower, upper)
+
+
+class UncutRatedFirst(Cutting):
+    """Refused where the uncut ranges are."""
+    def call(self, sheet, ends, depth):
+        answer = super().call(sheet, ends, depth)
+        uncut = super().call(sheet, ends, 0)
+        return uncut if isinstance(uncut, Refusal) else answer
+
+
+class UncutRefusal(Cutting):
+    """The refusal of the uncut ranges given, where a part is refused."""
+    def call(self, sheet, ends, depth):
+        answer = super().call(sheet, ends, depth)
+        return super().call(sheet, ends, 0) if isinstance(answer, Refusal) else answer
+
+
+class Intersected(Cutting):
+    """What both halves have in common, and not the hull."""
+    def hull_of(self, a, b):
+        return Range(max(a.low, b.low), min(a.high, b.high))
+
+
+class LowFromLower(Cutting):
+    """The low ends from the lower half, and the high ones from the upper."""
+    def hull_of(self, a, b):
+        return Range(a.low, b.high)
+
+
+class HulledWithZero(Cutting):
+    """The hull begun with zero."""
+    def hull_of(self, a, b):
+        return Range(min(a.low, b.low, 0), max(a.high, b.high, 0))
+
+
+class FieldsOfOneHalf(Cutting):
+    """Some fields of one half alone."""
+    half = None  # 0 the lower one, 1 the upper one
+    fields = ()
+
+    def hulled(self, lower, upper):
+        one = (lower, upper)[self.half]
+        return super().hulled(lower, upper)._replace(**{field: getattr(one, field) for field in self.fields})
+
+
+class ValueOfLower(FieldsOfOneHalf):
+    """The value of the lower half alone."""
+    half, fields = 0, ("value",)
+
+
+class ValueOfUpper(FieldsOfOneHalf):
+    """The value of the upper half alone."""
+    half, fields = 1, ("value",)
+
+
+class SlopesOfLower(FieldsOfOneHalf):
+    """The slopes of the lower half alone."""
+    half, fields = 0, ("slopes",)
+
+
+class SlopesOfUpper(FieldsOfOneHalf):
+    """The slopes of the upper half alone."""
+    half, fields = 1, ("slopes",)
+
+
+class BendsOfLower(FieldsOfOneHalf):
+    """Both bends of the lower half alone."""
+    half, fields = 0, ("bend", "full")
+
+
+class BendsOfUpper(FieldsOfOneHalf):
+    """Both bends of the upper half alone."""
+    half, fields = 1, ("bend", "full")
+
+
+class FullOfLower(FieldsOfOneHalf):
+    """The full bend of the lower half alone."""
+    half, fields = 0, ("full",)
+
+
+class FullOfUpper(FieldsOfOneHalf):
+    """The full bend of the upper half alone."""
+    half, fields = 1, ("full",)
+
+
+class BendForFullHulled(Cutting):
+    """The hulled bend given for the full bend."""
+    def hulled(self, lower, upper):
+        hulled = super().hulled(lower, upper)
+        return hulled._replace(full=hulled.bend)
+
+
+class FirstSlopeHulled(Cutting):
+    """The first slope hulled, and the others of the lower half alone."""
+    def hulled(self, lower, upper):
+        hulled = super().hulled(lower, upper)
+        return hulled._replace(slopes=hulled.slopes[:1] + lower.slopes[1:])
+
+
+# ---- classes cut finer: which depths are taken, and when that is asked
+
+class SevenTaken(Cutting):
+    """Depth 7 taken."""
+    most_depth = 7
+
+
+class SixRefused(Cutting):
+    """Depth 6 refused."""
+    most_depth = 5
+
+
+class ZeroRefused(Cutting):
+    """Depth 0 refused."""
+    def check_depth(self, depth):
+        super().check_depth(depth or -1)
+
+
+class NegativeTaken(Cutting):
+    """A depth below 0 taken for 0."""
+    def uncut(self, ranges, depth):
+        return super().uncut(ranges, max(depth, 0))
+
+    def check_depth(self, depth):
+        super().check_depth(max(depth, 0))
+
+
+class DepthReduced(Cutting):
+    """Another number taken for the depth that is read."""
+    def reduced(self, depth):
+        raise NotImplementedError
+
+    def check_depth(self, depth):
+        super().check_depth(self.reduced(depth))
+
+    def call(self, sheet, ends, depth):
+        return super().call(sheet, ends, self.reduced(depth))
+
+
+class AboveTakenForSix(DepthReduced):
+    """A depth above 6 taken for 6."""
+    def reduced(self, depth):
+        return min(depth, self.most_depth)
+
+
+class DepthOf8Bits(DepthReduced):
+    """The depth kept in 8 bits."""
+    def reduced(self, depth):
+        return (depth + 2 ** 7) % 2 ** 8 - 2 ** 7
+
+
+class DepthOf32Bits(DepthReduced):
+    """The depth kept in 32 bits."""
+    def reduced(self, depth):
+        return in_32_bits(depth)
+
+
+class SixteenAtOne(Cutting):
+    """16 with place 1."""
+    def check_depth(self, depth):
+        try:
+            super().check_depth(depth)
+        except Refused:
+            refuse(16, 1)
+
+
+class SixteenBeforeLoading(Cutting):
+    """16 ahead of the refusals of loading, and behind 1 for the whole input."""
+    def sheet(self, text):
+        self.depth(text)
+        return super().sheet(text)
+
+
+class SixteenBeforeLength(Cutting):
+    """16 ahead of 1 for the whole input."""
+    def check_length(self, text):
+        if len(text) > MOST_RATED:
+            self.depth(text)
+        super().check_length(text)
+
+
+class EightBeforeSixteen(Cutting):
+    """8 ahead of 16."""
+    def depth(self, text):
+        if len(self.ends(text)) != 2 * self.sheet(text).factors:
+            refuse(8, 0)
+        return super().depth(text)
+
+
+class FormBeforeSixteen(Cutting):
+    """8 for box lines of another form ahead of 16, and 8 for their number behind it."""
+    def depth(self, text):
+        self.ends(text)
+        return super().depth(text)
+
+
+class NineBeforeSixteen(Cutting):
+    """9 ahead of 16, and 8 behind it."""
+    def depth(self, text):
+        try:
+            ranges_of(self.sheet(text), self.ends(text))
+        except Refused as refused:
+            if refused.args[0].number == 9:
+                raise
+        return super().depth(text)
+
+
+class LinesBeforeSixteen(Cutting):
+    """All that rating the uncut ranges is refused for ahead of 16."""
+    def depth(self, text):
+        answer = self.call(self.sheet(text), self.ends(text), 0)
+        if isinstance(answer, Refusal):
+            refuse(*answer)
+        return super().depth(text)
+
+
+class NineOfParts(Cutting):
+    """9 looked for in each part, and not in the uncut ranges."""
+    def call(self, sheet, ends, depth):
+        self.check_depth(depth)
+        if len(ends) != 2 * sheet.factors:
+            refuse(8, 0)
+        plain = self.rated
+
+        def checked(sheet, ranges):
+            try:
+                ranges_of(sheet, [end for r in ranges for end in r])
+            except Refused as refused:
+                return refused.args[0]
+            return plain(sheet, ranges)
+        self.rated = checked
+        return self.rating(sheet, tuple(Range(*ends[k:k + 2]) for k in range(0, len(ends), 2)), depth)
+
+
+# ---- classes cut finer: the first line
+
+class PlacesFromFirstLine(Cutting):
+    """Places of loading's refusals counted from the first line."""
+    def sheet(self, text):
+        try:
+            return super().sheet(text)
+        except Refused as refused:
+            number, place = refused.args[0]
+            refuse(number, place and place + 1)
+
+
+class FirstLineUncounted(Cutting):
+    """The bytes of the first line not counted."""
+    def check_length(self, text):
+        super().check_length(self.first_line(text)[1])
+
+
+class FirstLineInSheet(Cutting):
+    """The bytes of the first line counted as the sheet's, too."""
+    def sheet(self, text):
+        first, behind = self.first_line(text)
+        if len(first) + 1 + len(parted(behind)[0]) > MOST_BYTES:
+            refuse(1, 0)
+        return super().sheet(text)
+
+
+class LengthAfterLoading(Cutting):
+    """1 for the whole input behind the refusals of loading."""
+    def check_length(self, text):
+        self.sheet(text)
+        super().check_length(text)
+
+
+class SheetEndSoughtFirst(Cutting):
+    """The line `box` looked for before the first line is cut off."""
+    def sheet(self, text):
+        return load(b"" if text.startswith(b"box\n") else parted(self.first_line(text)[1])[0])
+
+
+class OtherForm(Cutting):
+    """Something else made of a first line of another form."""
+    def otherwise(self, first):
+        raise NotImplementedError
+
+    def depth(self, text):
+        first, behind = self.first_line(text)
+        return super().depth((first if DEPTH_LINE.fullmatch(first) else self.otherwise(first)) + b"\n" + behind)
+
+
+class OtherFormZero(OtherForm):
+    """A first line of another form taken for depth 0."""
+    def otherwise(self, first):
+        return b"depth\t0"
+
+
+class OtherFormTwo(Cutting):
+    """A first line of another form refused with 2 at 1, ahead of loading."""
+    def sheet(self, text):
+        if not DEPTH_LINE.fullmatch(self.first_line(text)[0]):
+            refuse(2, 1)
+        return super().sheet(text)
+
+
+class OtherFormEight(OtherForm):
+    """A first line of another form refused with 8, as box lines are."""
+    def otherwise(self, first):
+        refuse(8, 0)
+
+
+class OtherFormFirst(Cutting):
+    """16 for a first line of another form, and only for that, ahead of loading."""
+    def sheet(self, text):
+        if not DEPTH_LINE.fullmatch(self.first_line(text)[0]):
+            refuse(16, 0)
+        return super().sheet(text)
+
+
+class NoFirstLineSixteen(Cutting):
+    """16 where the input has no byte 10, and so nothing behind the first line."""
+    def sheet(self, text):
+        if b"\n" not in text:
+            refuse(16, 0)
+        return super().sheet(text)
+
+
+class FirstLineLeftOut(Cutting):
+    """An input of `rate`, without a line of its own for the depth, rated to depth 0."""
+    def first_line(self, text):
+        return (b"depth\t0", text) if text.startswith(b"factors\t") else super().first_line(text)
+
+
+class Rewritten(OtherForm):
+    """A first line read as if it were written otherwise."""
+    found, instead, flags = b"", b"", 0
+
+    def otherwise(self, first):
+        return re.sub(self.found, self.instead, first, flags=self.flags)
+
+
+class ZerosInFrontTaken(Rewritten):
+    """Zeros before the depth taken."""
+    found, instead = rb"\A(depth\t-?)0+(?=[0-9])", rb"\1"
+
+
+class MinusZeroDepth(Rewritten):
+    """`-0` taken for depth 0."""
+    found, instead = rb"\t-0\Z", rb"\t0"
+
+
+class PlusTaken(Rewritten):
+    """A plus sign before the depth taken."""
+    found, instead = rb"\t\+", rb"\t"
+
+
+class BlanksTaken(Rewritten):
+    """Blanks taken for the tab."""
+    found, instead = rb"\A(depth) +", rb"\1\t"
+
+
+class BlanksAroundTaken(Rewritten):
+    """Blanks around the depth skipped."""
+    found, instead = rb"\t *([0-9]+) *\Z", rb"\t\1"
+
+
+class TabsTaken(Rewritten):
+    """Tabs taken for one."""
+    found, instead = rb"\t+", rb"\t"
+
+
+class CapitalsTaken(Rewritten):
+    """`Depth` and `DEPTH` taken."""
+    found, instead, flags = rb"\Adepth\t", rb"depth\t", re.IGNORECASE
+
+
+class AnyWordTaken(Rewritten):
+    """Any word before the depth taken."""
+    found, instead = rb"\A[^\t]*\t", rb"depth\t"
+
+
+class NoWordTaken(Rewritten):
+    """The depth alone taken."""
+    found, instead = rb"\A([0-9]+)\Z", rb"depth\t\1"
+
+
+class Byte13Skipped(Rewritten):
+    """Byte 13 before byte 10 dropped."""
+    found, instead = rb"\r\Z", b""
+
+
+class FieldsBehindIgnored(Rewritten):
+    """What stands behind the depth and a tab ignored."""
+    found, instead = rb"\A(depth\t[^\t]*)\t.*\Z", rb"\1"
+
+
+class NoNumeralZero(Rewritten):
+    """`depth` without a number taken for depth 0."""
+    found, instead = rb"\Adepth\t?\Z", b"depth\t0"
+
+
+class EmptyLineZero(Rewritten):
+    """An empty first line taken for depth 0."""
+    found, instead = rb"\A\Z", b"depth\t0"
+
+
+CUT_ERRORS = [
+    UpperFromNext, LowerToBefore, CutTowardZero, CutRoundedUp, CutOf32Bits, WidthOf32Bits, HighestOnEqualWidth, FirstFactorCut, WidestOnceForAll,
+    FactorsInTurn, FarthestCut, TwoUnitsUncut, OneUnitCut, AnyNarrowUncut,
+    OneTooMany, OneTooFew, CutOnce, LowerOnce, UpperOnce, LowerDepthKept, UpperDepthKept,
+    UpperRefusalFirst, EarlierLineFirst, DivisorFirst, RefusedHalfLeftOut, UncutRatedFirst, UncutRefusal,
+    Intersected, LowFromLower, HulledWithZero, ValueOfLower, ValueOfUpper, SlopesOfLower, SlopesOfUpper, BendsOfLower, BendsOfUpper, FullOfLower,
+    FullOfUpper, BendForFullHulled, FirstSlopeHulled,
+]
+
+# Those that differ from the right rules before a range is cut.
+FIRST_LINE_ERRORS = [
+    SevenTaken, SixRefused, ZeroRefused, NegativeTaken, AboveTakenForSix, DepthOf8Bits, DepthOf32Bits, SixteenAtOne,
+    SixteenBeforeLoading, SixteenBeforeLength, EightBeforeSixteen, FormBeforeSixteen, NineBeforeSixteen, LinesBeforeSixteen, NineOfParts,
+    PlacesFromFirstLine, FirstLineUncounted, FirstLineInSheet, LengthAfterLoading, SheetEndSoughtFirst,
+    OtherFormZero, OtherFormTwo, OtherFormEight, OtherFormFirst, NoFirstLineSixteen, FirstLineLeftOut,
+    ZerosInFrontTaken, MinusZeroDepth, PlusTaken, BlanksTaken, BlanksAroundTaken, TabsTaken, CapitalsTaken, AnyWordTaken, NoWordTaken, Byte13Skipped,
+    FieldsBehindIgnored, NoNumeralZero, EmptyLineZero,
 ]

@@ -1,5 +1,5 @@
 """The figures and edges of the papers as inputs of `rate` with the whole text it must print; inputs whose sheets are tidied, with the tidied sheet;
-inputs of `fleet`, with its whole print.
+inputs of `fleet` and of `cut`, with their whole print.
 
 In all of them, `;` stands for byte 10 and a blank for the tab. Where 01 gives a part of a result only, the other lines follow from its table.
 """
@@ -387,3 +387,89 @@ FLEET = [
 ]
 
 REPORTED = [(name, text(given), text(expected)) for name, given, expected in FLEET]
+
+
+def squared(low, high, slopes="-20000 40000"):
+    """What x·x comes to: its bend is 2 however it is cut."""
+    return f"value {low} {high};slope 1 {slopes};depends 1;bent 1;bend 20000 20000;full 20000 20000;"
+
+
+SQUARE = "factors 1;mul 1 1;box;-10000 20000;"
+SMALL_SQUARE = "factors 1;mulc 1 2000000;addc 2 300;mul 2 3;box;-3 0;"
+UNUSED_FACTOR = "factors 2;mul 1 1;box;-10000 10000;-10000 10000;"
+TWO_SQUARES = "factors 2;mul 1 1;mul 2 2;add 3 4;box;-10000 10000;-5000 5000;"
+DIVIDED = "factors 1;mul 1 1;addc 2 10000;inv 3;box;-10000 20000;"
+ZERO_INSIDE = "factors 1;addc 1 -5000;inv 2;box;0 10000;"
+TOO_HIGH = "factors 1;mulc 1 -10000;addc 2 5000000;mul 1 3;box;0 5000000;"  # x·(500 - x), at most 62,500
+STEEP = "value {0} 18;slope 1 -180000 60000;depends 1;bent 1;bend 800000000 800000000;full 800000000 800000000;"
+OF_TWO = "value {0} 12500;slope 1 -20000 20000;slope 2 -10000 10000;depends 1 2;bent 1 2;bend 20000 20000;full 20000 20000;"
+OF_ONE = "value {0} 10000;slope 1 -20000 20000;slope 2 0 0;depends 1;bent 1;bend 20000 20000;full 0 20000;"
+KEPT_BOX = KEPT + "box;7 9;"
+
+# 02, request 6, sentence by sentence, and what the program makes of its input.
+CUTTING = [
+    ("uncut", "depth 0;" + SQUARE, squared(-20000, 40000)),
+    ("cut at 5000", "depth 1;" + SQUARE, squared(-5000, 40000)),
+    ("cut at -2500 and 12500 then", "depth 2;" + SQUARE, squared(-1250, 40000)),
+    ("-3 to 0 uncut", "depth 0;" + SMALL_SQUARE, STEEP.format(-18)),
+    ("-3 to 0 cut at -2, and not at -1", "depth 1;" + SMALL_SQUARE, STEEP.format(-12)),
+    ("-3 to 0 cut to the last unit", "depth 2;" + SMALL_SQUARE, STEEP.format(-6)),
+    ("no more units to cut", "depth 6;" + SMALL_SQUARE, STEEP.format(-6)),
+    ("-10001 to 10000 cut at -1", "depth 1;factors 1;mul 1 1;box;-10001 10000;", squared(-1, 10003, "-20002 20000")),
+    ("two factors uncut", "depth 0;" + UNUSED_FACTOR, OF_ONE.format(-10000)),
+    ("the lowest factor on equal width", "depth 1;" + UNUSED_FACTOR, OF_ONE.format(0)),
+    ("equal widths in the second step", "depth 2;" + TWO_SQUARES, OF_TWO.format(-2500)),
+    ("another factor in the third step", "depth 3;" + TWO_SQUARES, OF_TWO.format(0)),
+    ("refused with 11 uncut", "depth 0;" + DIVIDED, "refused 11 4;"),
+    ("accepted in halves", "depth 1;" + DIVIDED, "value 2000 20000;slope 1 -40000 80000;depends 1;bent 1;bend -80000 560000;full -80000 560000;"),
+    ("narrower in quarters", "depth 2;" + DIVIDED, "value 2000 11429;slope 1 -16000 17718;depends 1;bent 1;bend -26126 51200;full -26126 51200;"),
+    ("refused with 12 uncut", "depth 0;" + TOO_HIGH, "refused 12 4;"),
+    ("accepted in halves, below the limit", "depth 1;" + TOO_HIGH,
+     "value 0 1250000000;slope 1 -5000000 5000000;depends 1;bent 1;bend -20000 -20000;full -20000 -20000;"),
+    *((f"0 inside, depth {depth}", f"depth {depth};" + ZERO_INSIDE, "refused 11 3;") for depth in range(6)),
+    ("next to 0, depth 6", "depth 6;" + ZERO_INSIDE, "refused 12 3;"),
+    ("the lower half's refusal first", "depth 1;factors 1;addc 1 -20000;inv 2;inv 1;box;0 20000;", "refused 11 4;"),
+    ("the uncut ranges' refusal", "depth 0;factors 1;addc 1 -20000;inv 2;inv 1;box;0 20000;", "refused 11 3;"),
+    ("1 unit is not cut", "depth 6;factors 1;addc 1 -1;inv 2;box;0 1;", "refused 11 3;"),
+    ("2 units uncut", "depth 0;factors 1;addc 1 -2;inv 2;box;0 2;", "refused 11 3;"),
+    ("2 units cut", "depth 1;factors 1;addc 1 -2;inv 2;box;0 2;", "refused 12 3;"),
+    ("a point is not cut", "depth 6;factors 1;mulc 1 5000;box;5 5;", "value 2 3;slope 1 5000 5000;depends 1;bent;bend 0 0;full 0 0;"),
+    ("the whole span", "depth 6;factors 1;addc 1 0;box;-2000000000 2000000000;", AT_LIMIT.format(-2000000000, 2000000000)),
+    ("depth -1", "depth -1;" + KEPT_BOX, "refused 16 0;"),
+    ("depth 0", "depth 0;" + KEPT_BOX, FACTOR_KEPT),
+    ("depth 6", "depth 6;" + KEPT_BOX, FACTOR_KEPT),
+    ("depth 7", "depth 7;" + KEPT_BOX, "refused 16 0;"),
+    ("depth 2^32", "depth 4294967296;" + KEPT_BOX, "refused 16 0;"),
+    ("16 ahead of 8 for the form", "depth 7;" + KEPT + "box;x;", "refused 16 0;"),
+    ("16 ahead of 8 for the number", "depth 7;" + KEPT + "box;", "refused 16 0;"),
+    ("16 ahead of 8 without a box", "depth 7;" + KEPT, "refused 16 0;"),
+    ("16 ahead of 9", "depth 7;" + KEPT + "box;9 7;", "refused 16 0;"),
+    ("16 ahead of 11", "depth 7;factors 1;inv 1;box;0 0;", "refused 16 0;"),
+    ("8 behind a good depth", "depth 6;" + KEPT + "box;", "refused 8 0;"),
+    ("9 of the uncut ranges, ahead of 11", "depth 1;factors 1;inv 1;box;0 2000000001;", "refused 9 1;"),
+    ("the lowest factor's 9", "depth 1;factors 2;add 1 2;box;0 2000000001;9 7;", "refused 9 1;"),
+    ("loading ahead of 16, places from the second line", "depth 7;factors 1;inv 7;box;x;", "refused 5 2;"),
+    ("no operation", "depth 7;factors 1;box;7 9;", "refused 4 1;"),
+    ("times 0 ahead of 16", "depth 7;factors 1;mulc 1 0;box;7 9;", "refused 15 2;"),
+    ("no number", "depth;" + KEPT_BOX, "refused 16 0;"),
+    ("zero in front", "depth 03;" + KEPT_BOX, "refused 16 0;"),
+    ("minus zero for a depth", "depth -0;" + KEPT_BOX, "refused 16 0;"),
+    ("eleven digits for a depth", "depth 10000000000;" + KEPT_BOX, "refused 16 0;"),
+    ("a field too many in the first line", "depth 3 3;" + KEPT_BOX, "refused 16 0;"),
+    ("another word in the first line", "deep 3;" + KEPT_BOX, "refused 16 0;"),
+    ("an empty first line", ";" + KEPT_BOX, "refused 16 0;"),
+    ("a first line `box`", "box;" + KEPT_BOX, "refused 16 0;"),
+    ("a first line `box` before a line `box`", "box;box;7 9;", "refused 2 1;"),
+    ("no first line", KEPT_BOX, "refused 2 1;"),
+    ("a first line alone", "depth 3;", "refused 2 1;"),
+    ("a first line without byte 10", "depth 3", "refused 2 1;"),
+    ("empty input of `cut`", "", "refused 2 1;"),
+    ("8,192 bytes with the first line", "depth 3;" + KEPT_BOX + "x" * (8192 - 8 - len(KEPT_BOX)), "refused 8 0;"),
+    ("8,193 bytes with the first line", "depth 3;" + KEPT_BOX + "x" * (8193 - 8 - len(KEPT_BOX)), "refused 1 0;"),
+    ("8,192 bytes, most of them in the first line", "depth 3" + "0" * (8192 - 8 - len(KEPT_BOX)) + ";" + KEPT_BOX, "refused 16 0;"),
+    ("8,193 bytes, most of them in the first line", "depth 3" + "0" * (8193 - 8 - len(KEPT_BOX)) + ";" + KEPT_BOX, "refused 1 0;"),
+    ("4,096 bytes of sheet behind the first line", "depth 3;" + "x" * 4095 + ";box;7 9;", "refused 2 1;"),
+    ("4,097 bytes of sheet behind the first line", "depth 3;" + "x" * 4096 + ";box;7 9;", "refused 1 0;"),
+]
+
+LIMITED = [(name, text(given), text(expected)) for name, given, expected in CUTTING]

@@ -79,13 +79,24 @@ def out_of_time(*_):
 signal.signal(signal.SIGALRM, out_of_time)
 
 
-def difference(binary, text, expected, *arguments):
-    """How the print of a program differs from the expected one; nothing where it does not."""
+def print_of(binary, text, *arguments):
+    """What a program prints, or None where it comes to no end."""
     signal.alarm(60)  # and no `timeout` below, with which Python naps until the program has ended: that doubles the time of a run
     try:
-        got = subprocess.run([binary, *arguments], input=text, stdout=subprocess.PIPE, close_fds=False).stdout
+        return subprocess.run([binary, *arguments], input=text, stdout=subprocess.PIPE, close_fds=False).stdout
     except TimeoutError:
-        return "--- no answer within a minute\n"
+        return None
     finally:
         signal.alarm(0)
+
+
+def unlike(got, expected):
+    """How a print differs from the expected one; nothing where it does not."""
+    if got is None:
+        return "--- no answer within a minute\n"
     return "" if got == expected else f"--- expected\n{expected.decode('latin-1')}--- got\n{got.decode('latin-1')}"
+
+
+def difference(binary, text, expected, *arguments):
+    """How the print of a program differs from the expected one."""
+    return unlike(print_of(binary, text, *arguments), expected)

@@ -118,6 +118,10 @@ class Cutting:
         """The sheet, or the refusal of loading it, with places counted from the line behind the first."""
         return load(parted(self.first_line(text)[1])[0], rules=self.loading)
 
+    def box(self, text):
+        """The bytes of the box lines, or None where there is no line `box` behind the first line."""
+        return parted(self.first_line(text)[1])[1]
+
     def depth(self, text):
         """The depth that the first line names, or 16; a line of another form counts as a depth outside 0 to 6."""
         form = DEPTH_LINE.fullmatch(self.first_line(text)[0])
@@ -127,7 +131,7 @@ class Cutting:
 
     def ends(self, text):
         """The numbers of the box lines, or 8 for a line of another form."""
-        return box_ends(parted(self.first_line(text)[1])[1])
+        return box_ends(self.box(text))
 
     def answer(self, text):
         self.check_length(text)

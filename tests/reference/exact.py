@@ -146,8 +146,12 @@ def eigenvectors(second, bent):
 
 def broken_promises(rng, sheet, ranges, result, note=unnoted):
     """What an accepted result says of one random point inside the ranges, as a list of what does not hold."""
+    return broken_at(rng, sheet, some_point(rng, ranges), result, note)
+
+
+def broken_at(rng, sheet, point, result, note=unnoted):
+    """What it says of one point, in random directions among others."""
     n = sheet.factors
-    point = some_point(rng, ranges)
     jets = exact_lines(sheet, point)
     if None in jets:
         return ["a divisor is 0"]
