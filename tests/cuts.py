@@ -14,6 +14,7 @@ from reference.sheet import MOST_BYTES, MOST_FACTORS, MOST_LINES, Operation, She
 from reference.text import MOST_INPUT
 
 KEPT = Sheet(1, (Operation("addc", (1, 0)),))  # the premium is the factor itself
+SUM = Sheet(2, (Operation("add", (1, 2)),))
 GOOD = input_text(KEPT, [Range(7, 9)])
 
 # depths outside 0 to 6; some of them come to 0 to 6 in 8, 16 or 32 bits
@@ -367,7 +368,8 @@ def sixteen_cases(rng):
         yield f"cut, {name}, beside one of loading", line + earlier(rng)
     for name, (lines, also) in LATER.items():
         yield f"cut, 16 over {name}", bad_line(rng) + broken(rng, *lines, also=also)
-    yield "cut, 16 over 8 (no box)", bad_line(rng) + sheet_text(KEPT)
+    for sheet in (KEPT, SUM):
+        yield "cut, 16 over 8 (no box)", bad_line(rng) + sheet_text(sheet)
     for number, (lines, also) in [*BROKEN.items(), (4, ([], [NONE])), (2, ([], [END])), (1, ([], [INPUT]))]:
         text = broken(rng, *lines, also=also)
         yield f"cut, {number} over 16", bad_line(rng) + text
@@ -398,7 +400,8 @@ def line_cases(rng):
     yield "cut, the first line behind the sheet", GOOD + depth
     yield "cut, the first line before the box", sheet_text(KEPT) + depth + box_text([Range(7, 9)])
     yield "cut, the first line left out", GOOD
-    yield "cut, no line `box`", depth + sheet_text(KEPT)
+    for sheet in (KEPT, SUM):
+        yield "cut, no line `box`", depth + sheet_text(sheet)
     yield "cut, `box` without its byte 10", depth + sheet_text(KEPT) + b"box"
 
 

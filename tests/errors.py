@@ -1457,12 +1457,10 @@ class DepthOf32Bits(DepthReduced):
 
 
 class SixteenAtOne(Cutting):
-    """16 with place 1."""
-    def check_depth(self, depth):
-        try:
-            super().check_depth(depth)
-        except Refused:
-            refuse(16, 1)
+    """16 with place 1, the line that it is about."""
+    def run(self, text):
+        answer = super().run(text)
+        return Refusal(16, 1) if answer == Refusal(16, 0) else answer
 
 
 class SixteenBeforeLoading(Cutting):

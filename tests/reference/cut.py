@@ -125,7 +125,9 @@ class Cutting:
     def depth(self, text):
         """The depth that the first line names, or 16; a line of another form counts as a depth outside 0 to 6."""
         form = DEPTH_LINE.fullmatch(self.first_line(text)[0])
-        depth = int(form[1]) if form else -1
+        if form is None:
+            refuse(16, 0)
+        depth = int(form[1])
         self.check_depth(depth)
         return depth
 
