@@ -456,4 +456,5 @@ def inside_complaint(got, wider, whose):
         return f"--- refused, though {whose} limits are not\n"
     pairs = zip((got.value, *got.slopes, got.bend, got.full), (wider.value, *wider.slopes, wider.bend, wider.full))
     inside = all(theirs.low <= ours.low and ours.high <= theirs.high for ours, theirs in pairs)
-    return "" if inside else f"--- a printed limit is not inside {whose}\n"
+    complaint = "" if inside else f"--- a printed limit is not inside {whose}\n"
+    return complaint + ("" if (got.depends, got.bent) == (wider.depends, wider.bent) else f"--- the printed sets are not {whose}\n")

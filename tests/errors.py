@@ -1623,6 +1623,21 @@ class FirstLineLeftOut(Cutting):
         return (b"depth\t0", text) if text.startswith(b"factors\t") else super().first_line(text)
 
 
+class TimesZeroRated(Cutting):
+    """A class rated by a sheet with `mulc` by 0."""
+    loading = TimesZeroTaken
+
+
+class SixteenBeforeFifteen(Cutting):
+    """16 ahead of 15, and behind the other refusals of loading."""
+    loading = TimesZeroTaken
+
+    def depth(self, text):
+        depth = super().depth(text)
+        Cutting().sheet(text)
+        return depth
+
+
 class Rewritten(OtherForm):
     """A first line read as if it were written otherwise."""
     found, instead, flags = b"", b"", 0
@@ -1710,7 +1725,7 @@ FIRST_LINE_ERRORS = [
     SevenTaken, SixRefused, ZeroRefused, NegativeTaken, AboveTakenForSix, DepthOf8Bits, DepthOf32Bits, SixteenAtOne,
     SixteenBeforeLoading, SixteenBeforeLength, EightBeforeSixteen, FormBeforeSixteen, NineBeforeSixteen, LinesBeforeSixteen, NineOfParts,
     PlacesFromFirstLine, FirstLineUncounted, FirstLineInSheet, LengthAfterLoading, SheetEndSoughtFirst,
-    OtherFormZero, OtherFormTwo, OtherFormEight, OtherFormFirst, NoFirstLineSixteen, FirstLineLeftOut,
+    OtherFormZero, OtherFormTwo, OtherFormEight, OtherFormFirst, NoFirstLineSixteen, FirstLineLeftOut, TimesZeroRated, SixteenBeforeFifteen,
     ZerosInFrontTaken, MinusZeroDepth, PlusTaken, BlanksTaken, BlanksAroundTaken, TabsTaken, CapitalsTaken, AnyWordTaken, NoWordTaken, Byte13Skipped,
     FieldsBehindIgnored, NoNumeralZero, EmptyLineZero,
 ]

@@ -148,14 +148,6 @@ class Cutting:
             return refused.args[0]
 
 
-def cut_rated(sheet, ends, depth, rules=Cutting):
-    """What a call comes to: its result, or its refusal."""
-    try:
-        return rules().call(sheet, ends, depth)
-    except Refused as refused:
-        return refused.args[0]
-
-
 def cut_printed(text, rules=Cutting):
     """What the program prints: as `rate` does."""
     return printed(rules().run(text))
