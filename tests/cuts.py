@@ -91,8 +91,8 @@ def some_ranges(rng, factors, width):
     """Ranges of about one width, so that different factors are cut one after another; at times of the very same width."""
     ranges = [wide_range(rng, width) for _ in range(factors)]
     if rng.random() < 0.4:
-        width = rng.choice(ranges)
-        ranges = [Range(r.low, r.low + width.high - width.low) for r in ranges]
+        like = rng.choice(ranges)
+        ranges = [Range(r.low, r.low + like.high - like.low) for r in ranges]
     return ranges
 
 
@@ -167,7 +167,7 @@ def divided(rng):
 
 
 def past_uncut(rng):
-    """x·(c - x), times something: uncut it passes the limit, and cut often enough it does not, or in one half only."""
+    """x·(c - x), and perhaps something more: uncut it passes the limit, and cut often enough it does not, or in one half only."""
     high = rng.randint(4_500_000, 8_500_000)
     operations = [Operation("mulc", (1, -UNIT)), Operation("addc", (2, high + rng.randint(0, high // 4))), Operation("mul", (1, 3))]
     if rng.random() < 0.3:
@@ -184,12 +184,13 @@ def one_refused(rng):
         zero = rng.choice((rng.randint(low, high), low, high, cut, cut + 1, cut - 1))
         operations = [Operation("addc", (1, -zero)), Operation("inv", (2,))]
     else:
-        operations = [Operation("mulc", (1, UNIT)), Operation("addc", (2, rng.choice((LIMIT - rng.randint(low, high), -LIMIT - rng.randint(low, high)))))]
+        operations = [Operation("addc", (1, rng.choice((LIMIT - rng.randint(0, max(high, 0)), rng.randint(0, max(-low, 0)) - LIMIT))))]
     return cut_text(rng.randint(0, MOST_DEPTH), Sheet(1, tuple(operations)), [Range(low, high)])
 
 
 def both_refused(rng):
-    """Two lines, each refused at one place of the class: an inverse at its 0, and a product that passes the limit far from its own 0."""
+    """Two lines, each refused at one end of the class: an inverse at its 0, and a product that passes the limit far from its own 0, or another
+    inverse."""
     factors = rng.choice((1, 1, 2))
     low = rng.randint(-2 * UNIT, UNIT)
     width = rng.randint(UNIT, 3 * UNIT)
@@ -201,17 +202,15 @@ def both_refused(rng):
         operations.append(Operation(name, numbers))
         return factors + len(operations)
 
-    def inverse():
-        return append("inv", append("addc", a, -(near + (far - near) * rng.randint(0, 30) // 100)))
+    def near_end():
+        append("inv", append("addc", a, -(near + (far - near) * rng.randint(0, 30) // 100)))
 
-    def past_limit():
+    def far_end():
         if rng.random() < 0.5:
-            return inverse_at(far)
-        return append("mulc", append("addc", a, -near), rng.choice((-1, 1)) * min(LIMIT, 2 * UNIT * LIMIT // width))
-
-    def inverse_at(end):
-        return append("inv", append("addc", a, -end))
-    for step in rng.sample((inverse, past_limit), 2):
+            append("inv", append("addc", a, -far))
+        else:
+            append("mulc", append("addc", a, -near), rng.choice((-1, 1)) * min(LIMIT, 2 * UNIT * LIMIT // width))
+    for step in rng.sample((near_end, far_end), 2):
         step()
     ranges = [Range(0, rng.randint(0, width)) for _ in range(factors)]
     ranges[a - 1] = Range(low, low + width)
@@ -227,7 +226,7 @@ def few_units(rng):
         low = rng.randint(-12, 8)
         ranges.append(Range(low, low + rng.choice((0, 1, 2, 2, 3, 3, 4, 5, 7, 9, 12))))
     growing = Growing(ranges)
-    terms = [turning(rng, growing, a, rng.randint(10 ** 5, 5 * 10 ** 6)) for a in range(1, factors + 1) if rng.random() < 0.7]
+    terms = [turning(rng, growing, a, rng.randint(10 ** 5, 3 * 10 ** 6)) for a in range(1, factors + 1) if rng.random() < 0.7]
     if len(terms) > 1 and rng.random() < 0.3:
         growing.append("mul", *terms[:2])
     else:
@@ -285,7 +284,7 @@ def far_out(rng):
     else:
         for a, r in enumerate(ranges, 1):
             turning(rng, growing, a, rng.randint(1, 5) if r.high - r.low > LIMIT else UNIT)
-        growing.add_up(growing.unused)
+        growing.add_up(sorted(growing.unused))
     sheet = growing.sheet()
     return cut_text(some_depth(rng, sheet), sheet, ranges)
 
@@ -300,7 +299,7 @@ def eight(rng):
     growing = Growing(ranges)
     for a in rng.sample(range(1, factors + 1), rng.randint(1, 3)):
         turning(rng, growing, a)
-    growing.add_up(growing.unused)
+    growing.add_up(sorted(growing.unused))
     sheet = growing.sheet()
     return cut_text(rng.choice((1, 1, 2, 3)), sheet, growing.ranges)
 
