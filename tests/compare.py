@@ -349,7 +349,7 @@ def main():
     parser.add_argument("--count", type=int, default=6000, help="random inputs, beside the figures")
     parser.add_argument("--dead-lines", type=int, default=1500, help="random inputs with dead lines, where `tidy` is compared")
     parser.add_argument("--fleets", type=int, default=600, help="random lists of boats, where `fleet` is compared")
-    parser.add_argument("--cuts", type=int, default=1500, help="random classes that are cut, where `cut` is compared")
+    parser.add_argument("--cuts", type=int, default=2500, help="random classes that are cut, where `cut` is compared")
     parser.add_argument("--jobs", type=int, default=os.cpu_count() or 1, help="processes that the inputs are dealt out to")
     parser.add_argument("--self-test", metavar="VECTORS")
     parser.add_argument("--program", choices=PRINTS, help="whose vectors they are, if not their kind's")
