@@ -1,5 +1,13 @@
 -- Hulls of ranges: each holds both, and the laws of joining three. Assumes nothing.
-use mathlib.Core.Path.{_≡_, ap₂}
+use mathlib.Core.Path.{_≡_, refl, ap₂, _∙_}
+use mathlib.Core.Bool.{Bool, true, false}
+use mathlib.Core.List.{List}
+use Prim.Native.Nat.{ℕ, _+_, _<_}
+use native.Mathlib.Omega.{arith}
+use borrow.Author.Tests.{eqb-true, eqb-false}
+use lib.Dec.{eqb}
+use lib.ListN.{length, set}
+use lib.Seq.{getD-set-same, getD-set-other}
 use lib.IntN.{ℤ}
 use lib.Signed.{_≤ℤ_}
 use Rattle.algebra.proofs.Int.{≤ℤ-trans, ≤ℤ-antisym}
@@ -8,7 +16,8 @@ use Rattle.exact.proofs.Rat as Q
 use Rattle.exact.proofs.Rat.{ℚ, _≤ℚ_, 0ℚ}
 use Rattle.exact.proofs.Units.{units-mono}
 use Rattle.range.specs.declared.Range.{Range}
-use Rattle.range.specs.Limit.{fromTo}
+use Rattle.range.specs.Limit.{fromTo, zeroRange}
+use Rattle.range.specs.Sums.{at}
 use Rattle.range.specs.Arithmetic.{lesserOf, greaterOf, endsHull}
 use Rattle.range.proofs.Extremes.{lesser-any, greater-any, lesser-left, lesser-right, greater-left, greater-right}
 use Rattle.rules.specs.Promises.{Between}
@@ -97,3 +106,12 @@ module _ {a b : Range} (o : About a b) where
     low = Q.≤ℚ-trans (Q.*ℚ-monoʳ q n (units-mono (o .low))) (w .low);
     high = Q.≤ℚ-trans (w .high) (Q.*ℚ-monoʳ q n (units-mono (o .high)));
   }
+
+-- ---- ranges hulled one by one: those before k are, and k is put
+pub one-more : (f : ℕ → Range) (out : List Range) {k : ℕ} {r : Range} → k < length out → ((i : ℕ) → i < k → at out i ≡ f i) → r ≡ f k
+    → (i : ℕ) → i < k + 1 → at (set out k r) i ≡ f i
+one-more f out {k} {r} l h e i m = go (eqb i k) refl
+  where
+    go : (b : Bool) → eqb i k ≡ b → at (set out k r) i ≡ f i
+    go true q = let s : i ≡ k = eqb-true i k q in rw (s, getD-set-same out k r zeroRange l) e
+    go false q = getD-set-other out k i r zeroRange (eqb-false i k q) ∙ h i (omega (arith, eqb-false i k q))

@@ -72,30 +72,6 @@ wider-sound {c} few w s = record {
 
 -- ---- the hull of two
 module _ (l m : Limits) where
-  -- field by field, as it is put together
-  pub limits-hulled : {v e f g0 g1 g2 g3 g4 g5 g6 g7 : Range} → v ≡ endsHull (l .value) (m .value)
-      → e ≡ endsHull (l .spectrum) (m .spectrum)
-      → f ≡ endsHull (l .full) (m .full)
-      → g0 ≡ endsHull (at (l .gradient) 0) (at (m .gradient) 0)
-      → g1 ≡ endsHull (at (l .gradient) 1) (at (m .gradient) 1)
-      → g2 ≡ endsHull (at (l .gradient) 2) (at (m .gradient) 2)
-      → g3 ≡ endsHull (at (l .gradient) 3) (at (m .gradient) 3)
-      → g4 ≡ endsHull (at (l .gradient) 4) (at (m .gradient) 4)
-      → g5 ≡ endsHull (at (l .gradient) 5) (at (m .gradient) 5)
-      → g6 ≡ endsHull (at (l .gradient) 6) (at (m .gradient) 6)
-      → g7 ≡ endsHull (at (l .gradient) 7) (at (m .gradient) 7)
-      → record {
-        value = v;
-        gradient = g0 ∷ g1 ∷ g2 ∷ g3 ∷ g4 ∷ g5 ∷ g6 ∷ g7 ∷ [];
-        support = l .support;
-        nonlinear = l .nonlinear;
-        spectrum = e;
-        full = f;
-      }
-      ≡ hullLimits l m
-  unfolding hullLimits
-  limits-hulled v e f a b c d i j k o = cc
-
   pub slope-hulled : (a : ℕ) → a < 8 → at (hullLimits l m .gradient) a ≡ endsHull (at (l .gradient) a) (at (m .gradient) a)
   unfolding hullLimits
   slope-hulled a k = at-eight (λ a. endsHull (at (l .gradient) a) (at (m .gradient) a)) a k

@@ -1,29 +1,36 @@
 // The answers of two parts, hulled end by end.
 ghost use mathlib.Core.Path.{_≡_};
+ghost use Rattle.range.specs.Arithmetic.{endsHull};
+ghost use Rattle.range.specs.Sums.{at};
+ghost use Rattle.rules.specs.Table.{eight};
 ghost use Rattle.rules.specs.Rate.{refused};
 ghost use Rattle.bisection.specs.Cut as Cut;
+use range::Range;
 use rules::Limits;
 use rules::Outcome;
 use rules::Rating;
+
+// The slopes, factor by factor.
+fn hull_slopes(g: [Range; 8], h: [Range; 8]) -> [Range; 8]
+    ensures { λ r. ⌜ r ≡ eight (λ a. endsHull (at g a) (at h a)) ⌝ }
+{
+    let mut out = [Range::ZERO; 8];
+    let mut a: usize = 0;
+    while a < 8 {
+        out[a] = g[a].ends_hull(h[a]);
+        a += 1;
+    }
+    out
+}
 
 fn hull_limits(l: Limits, m: Limits) -> Limits
     ensures { λ r. ⌜ r ≡ Cut.hullLimits l m ⌝ }
 {
     let g = l.gradient;
     let h = m.gradient;
-    let gradient = [
-        g[0].ends_hull(h[0]),
-        g[1].ends_hull(h[1]),
-        g[2].ends_hull(h[2]),
-        g[3].ends_hull(h[3]),
-        g[4].ends_hull(h[4]),
-        g[5].ends_hull(h[5]),
-        g[6].ends_hull(h[6]),
-        g[7].ends_hull(h[7]),
-    ];
     Limits {
         value: l.value.ends_hull(m.value),
-        gradient: gradient,
+        gradient: hull_slopes(g, h),
         support: l.support,
         nonlinear: l.nonlinear,
         spectrum: l.spectrum.ends_hull(m.spectrum),
