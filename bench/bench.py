@@ -3,7 +3,7 @@
 
 bench/bench.py PATH_TO_RATE_MANY [PATH_TO_AN_EARLIER_ONE]
 bench/bench.py --pages PATH_TO_RATE_MANY
-bench/bench.py --cuts PATH_TO_RATE_MANY
+bench/bench.py --cuts PATH_TO_CUT_MANY
 
 PATH N < SHEET loads the sheet once and rates it N times; bench/reference.c, built here with cc -O3, does the same. Both run in turn.
 Nanoseconds are the least processor time of all rounds, and the ratio is that of the two; the median is that of the rounds' own ratios, which a busy
@@ -14,9 +14,8 @@ PATH N numbers < FLEET and PATH N boats < FLEET read a sheet and its boats once 
 numbers and from a slice of structs. A page of 1,000 boats is timed in the same way, beside ratings of the middle of the class, a class of one point.
 --pages times the pages alone.
 
-PATH N cut < CLASS reads a sheet and its ranges once and rates the class N times to the depth that its first line gives (02, request 6). Each depth is
-timed in the same way, beside ratings of the uncut class; what is compared is the time of a part, the whole call's over 2 to the depth. --cuts times the
-cuts alone.
+--cuts times classes cut finer (02, request 6), and nothing else: PATH N < CLASS reads a sheet and its ranges once and rates the class N times to the depth
+that its first line gives, PATH N rate < SHEET rates it N times uncut. What is compared is the time of a part, the whole call's over 2 to the depth.
 """
 import argparse
 import os
@@ -271,12 +270,12 @@ class Cuts:
     """Ratings of a class, and the class cut to each depth."""
 
     def __init__(self, engine, sheet, folder):
-        self.sheet, self.rating = sheet, Timed(engine, sheet)
+        self.sheet, self.rating = sheet, Timed(engine, sheet, "rate")
         self.depths = []
         for depth in DEPTHS:
             path = Path(folder) / f"{sheet.stem}-depth-{depth}.txt"
             path.write_text(f"depth\t{depth}\n{sheet.read_text()}")
-            self.depths.append(Timed(engine, path, "cut"))
+            self.depths.append(Timed(engine, path))
 
     def round(self):
         self.rating.round()
@@ -322,24 +321,23 @@ def cut_table(sheets, engine, folder):
 
 def main():
     parser = argparse.ArgumentParser(description=__doc__, formatter_class=argparse.RawDescriptionHelpFormatter)
-    parser.add_argument("engine", metavar="PATH_TO_RATE_MANY", type=Path)
+    parser.add_argument("engine", metavar="PATH", type=Path, help="the program `rate_many`, or with --cuts `cut_many`")
     parser.add_argument("earlier", metavar="PATH_TO_AN_EARLIER_ONE", type=Path, nargs="?")
     parser.add_argument("--pages", action="store_true", help="pages of boats alone")
-    parser.add_argument("--cuts", action="store_true", help="classes cut finer alone")
+    parser.add_argument("--cuts", action="store_true", help="classes cut finer, by `cut_many`")
     arguments = parser.parse_args()
-    alone = arguments.pages or arguments.cuts
-    if alone and arguments.earlier:
+    if (arguments.pages or arguments.cuts) and arguments.earlier:
         parser.error("--pages and --cuts take no earlier build: it would have to know the fleet page, and the cut")
     engine = arguments.engine.resolve()
     all_sheets = sorted(SHEETS.glob("*.txt"), key=lambda sheet: (shape(sheet), sheet.stem))
     classes = [sheet for sheet in all_sheets if not sheet.stem.startswith("growth-")]
     with tempfile.TemporaryDirectory() as folder:
-        if not alone:
-            rating_tables(all_sheets, classes, engine, arguments.earlier, folder)
-        if arguments.pages or not alone:
-            page_tables(classes, engine, folder)
-        if arguments.cuts or not alone:
+        if arguments.cuts:
             cut_table(classes, engine, folder)
+            return
+        if not arguments.pages:
+            rating_tables(all_sheets, classes, engine, arguments.earlier, folder)
+        page_tables(classes, engine, folder)
 
 
 if __name__ == "__main__":

@@ -1,8 +1,8 @@
 #!/usr/bin/env python3
 """Compares the programs `rate`, `tidy`, `fleet` and `cut` with the papers' rules over unlimited whole numbers and exact fractions (tests/reference).
 
-tests/compare.py --binary PATH [--tidy PATH [--tidy-into PATH]] [--fleet PATH] [--cut PATH] [--rate-many PATH] [--seed N] [--count N]
-        [--dead-lines N] [--fleets N] [--cuts N] [--jobs N]
+tests/compare.py --binary PATH [--tidy PATH [--tidy-into PATH]] [--fleet PATH [--rate-many PATH]] [--cut PATH [--cut-many PATH]] [--seed N]
+        [--count N] [--dead-lines N] [--fleets N] [--cuts N] [--jobs N]
     `rate`: the figures of the papers, the examples, inputs that two refusals fit, and random ones: every printed byte; the bends beside those
     with each square rounded (02, request 2) and those without special cases of a product (request 4), which must be no narrower; for a share of the
     accepted random ones also the exact premium and its derivatives, as fractions, at a point inside the ranges
@@ -11,7 +11,8 @@ tests/compare.py --binary PATH [--tidy PATH [--tidy-into PATH]] [--fleet PATH] [
     `fleet`: lists of boats (fleets.py), the figures of the request and the example: every printed byte
     `cut`: classes that are cut finer (cuts.py), the figures of the request and the examples: every printed byte; of what is printed also that a deeper
     cut is no wider, and for a share the exact premium and its derivatives, at cut points among others (cutting.py)
-    `rate_many`: the lists of `fleet`, by the other form in which boats are handed over, and a share of the inputs of `cut`, each made a few times
+    `rate_many`: the lists of `fleet`, by the other form in which boats are handed over
+    `cut_many`: a share of the inputs of `cut`, each made a few times
 tests/compare.py --self-test VECTORS [--program NAME]
     the reference alone against a file of vectors, one JSON object a line with "input" (hex) and "expected"; the program is the one that is named, or
     else the vector's "kind", or `rate` where that is no program's name
@@ -344,7 +345,8 @@ def main():
     parser.add_argument("--tidy-into", help="the program `tidy_into`, beside it")
     parser.add_argument("--fleet", help="the program `fleet`")
     parser.add_argument("--cut", help="the program `cut`")
-    parser.add_argument("--rate-many", help="the program `rate_many`, beside `fleet` and `cut`")
+    parser.add_argument("--rate-many", help="the program `rate_many`, beside `fleet`")
+    parser.add_argument("--cut-many", help="the program `cut_many`, beside `cut`")
     parser.add_argument("--seed", type=int, default=1)
     parser.add_argument("--count", type=int, default=6000, help="random inputs, beside the figures")
     parser.add_argument("--dead-lines", type=int, default=1500, help="random inputs with dead lines, where `tidy` is compared")
@@ -358,7 +360,7 @@ def main():
         sys.exit(not self_test(arguments.self_test, arguments.program))
     if not arguments.binary:
         parser.error("--binary or --self-test")
-    for path in (arguments.binary, arguments.tidy, arguments.tidy_into, arguments.fleet, arguments.cut, arguments.rate_many):
+    for path in (arguments.binary, arguments.tidy, arguments.tidy_into, arguments.fleet, arguments.rate_many, arguments.cut, arguments.cut_many):
         if path and not Path(path).is_file():
             parser.error(f"no program {path}")
     if arguments.jobs < 1:
@@ -378,11 +380,12 @@ def compared(arguments, share):
     if tidying:
         for name, text, expected in tidy_inputs(arguments.seed, arguments.dead_lines, share):
             tidying.compare(name, text, rating.compare(name, text), expected)
-    many = Path(arguments.rate_many).resolve() if arguments.rate_many else None
-    paging = FleetComparison(Path(arguments.fleet).resolve(), many) if arguments.fleet else None
+    numbers = Path(arguments.rate_many).resolve() if arguments.rate_many else None
+    paging = FleetComparison(Path(arguments.fleet).resolve(), numbers) if arguments.fleet else None
     if paging:
         for name, text, expected in fleet_inputs(arguments.seed, arguments.fleets, share):
             paging.compare(name, text, expected)
+    many = Path(arguments.cut_many).resolve() if arguments.cut_many else None
     cutting = CutComparison(Path(arguments.cut).resolve(), many) if arguments.cut else None
     if cutting:
         for name, text, expected in cut_inputs(arguments.seed, arguments.cuts, share):

@@ -1,5 +1,5 @@
 """Compares the program `cut` with 02, request 6 (tests/reference/cut.py): every printed byte, and for a share the same by the job `cut` of
-`rate_many`, which makes the call several times.
+`cut_many`, which makes the call several times.
 
 Besides, of what the program printed: the sets are those of the sheet, the full bend is the lifted bend, the limits are inside those of the uncut
 ranges where these are accepted, and inside those of the depth before (02, request 11); and the exact premium and its derivatives are inside at random
@@ -25,7 +25,7 @@ from tally import Tally, difference, print_of, unlike
 
 EXACT_SHARE = 0.6  # of the accepted inputs
 DEEPER_SHARE = 0.5  # of the classes that are rated to a depth below 6: cut once more
-MANY_SHARE = 0.25  # of all inputs: by `rate_many`, too
+MANY_SHARE = 0.25  # of all inputs: by `cut_many`, too
 
 HALVES = ("lower", "upper")
 LOADING = (*range(1, 8), 15)
@@ -66,7 +66,7 @@ LIMIT_RULES = [
         "second derivatives 0 outside the bent set", "v'Hv inside the bend", "v'Hv inside the full bend", "same premium elsewhere",
         "same first derivatives elsewhere", "v'Hv in the direction of an eigenvector", "at a cut point", "beside a cut point",
         "anywhere in the class", "where the uncut ranges are refused")),
-    "cut: made more than once by `rate_many`",
+    "cut: made more than once by `cut_many`",
 ]
 
 # What is refused ahead of the parts, by the kinds of orders.py. The first four come behind 16, too; so do 11 and 12 of the uncut ranges.
@@ -132,12 +132,12 @@ class CutComparison(Tally):
     rules = CLASS_RULES + HALF_RULES + LIMIT_RULES + REFUSAL_RULES + EDGE_RULES
     errors = CUT_ERRORS + FIRST_LINE_ERRORS
 
-    def __init__(self, cut, rate_many=None):
+    def __init__(self, cut, cut_many=None):
         super().__init__()
         self.cut = cut
-        self.rate_many = rate_many
-        if not rate_many:
-            self.rules = [rule for rule in self.rules if not rule.endswith("by `rate_many`")]
+        self.cut_many = cut_many
+        if not cut_many:
+            self.rules = [rule for rule in self.rules if not rule.endswith("by `cut_many`")]
 
     def least(self, rule):
         """The random classes meet what a class can have often; all else has inputs of its own, which are made a few times."""
@@ -152,11 +152,11 @@ class CutComparison(Tally):
             complaint = f"--- figure\n{expected.decode()}--- reference\n{ours.decode()}"
         else:
             complaint = unlike(got, ours)
-        if self.rate_many and rng.random() < MANY_SHARE:
+        if self.cut_many and rng.random() < MANY_SHARE:
             times = rng.choice((1, 2, 3))
             if times > 1:
-                self.note("cut: made more than once by `rate_many`")
-            complaint += difference(self.rate_many, text, ours, str(times), "cut")
+                self.note("cut: made more than once by `cut_many`")
+            complaint += difference(self.cut_many, text, ours, str(times))
         complaint += self.order_complaint(text, answer)
         self.note_edges(text, answer)
         if comes_to_parts(answer):

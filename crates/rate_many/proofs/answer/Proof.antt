@@ -13,9 +13,6 @@ returns-2 c = written-fits _ _ (c .answer-after2 .ensures)
 returns-3 : tie.Need-returns-3
 returns-3 c = written-fits _ _ (c .answer-after3 .ensures)
 
-returns-4 : tie.Need-returns-4
-returns-4 c = written-fits _ _ (c .answer-after4 .ensures)
-
 pub answer-spec : {M : Type 1} → statement M
 answer-spec =
     tie.close
@@ -28,9 +25,5 @@ answer-spec =
     (λ c κs. search needs)
     (λ c κs. search needs)
     returns-2
-    (λ c. search needs)
     (λ c κs. search needs)
-    (λ c κs. search needs)
-    returns-3
-    (λ c κs. search needs)
-    returns-4)
+    returns-3)
