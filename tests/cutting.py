@@ -1,5 +1,5 @@
-"""Compares the program `cut` with 02, request 6 (tests/reference/cut.py): every printed byte, and for a share the same by the job `cut` of
-`cut_many`, which makes the call several times.
+"""Compares the program `cut` with 02, request 6 (tests/reference/cut.py): every printed byte, and for a share the same by `cut_many`,
+which makes the call several times.
 
 Besides, of what the program printed: the sets are those of the sheet, the full bend is the lifted bend, the limits are inside those of the uncut
 ranges where these are accepted, and inside those of the depth before (02, request 11); and the exact premium and its derivatives are inside at random

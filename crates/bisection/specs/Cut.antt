@@ -1,5 +1,4 @@
--- 02, request 6: "A class is cut in two at the middle of its widest range, each half in the same way, to a depth of 0 to 6, and the answers are
--- hulled."
+-- 02, request 6, "Classes cut finer": "Add rating to a depth of 0 to 6."
 use mathlib.Core.Bool.{Bool, _&&_, cond}
 use mathlib.Core.List.{List, [], _∷_, _++_}
 use Prim.Native.Nat.{ℕ, zero, suc, _*_}
@@ -34,8 +33,8 @@ use Rattle.bisection.specs.declared.Bisected.{Bisected}
 abbrev pub widthOf : Range → ℤ
 widthOf r = r .high -ℤ r .low
 
--- "the lowest factor on equal width": of the ranges from factor i on, the first that is wider than all before, where b is the widest so far and
--- w its width. Factors are counted from 0.
+-- "the widest range, the lowest factor on equal width": of the ranges from factor i on, the first that is wider than all before, where b is the
+-- widest so far and w its width. Factors are counted from 0.
 unfoldable pub widestFrom : ℕ → ℕ → ℤ → List Range → ℕ
 widestFrom i b w [] = b
 widestFrom i b w (r ∷ rs) = cond (ltZ w (widthOf r)) (widestFrom (suc i) i (widthOf r) rs) (widestFrom (suc i) b w rs)
@@ -51,7 +50,7 @@ widestRange rs = at rs (widest rs)
 unfoldable pub narrow : List Range → Bool
 narrow rs = ltZ (widthOf (widestRange rs)) (pos 2)
 
--- the middle, rounded toward minus infinity
+-- "at half the sum of its ends, rounded down": toward minus infinity
 unfoldable pub cutPoint : Range → ℤ
 cutPoint r = floorDiv (r .low +ℤ r .high) 2
 
@@ -64,7 +63,7 @@ upperPart rs = set rs (widest rs) (fromTo (cutPoint (widestRange rs)) (widestRan
 
 -- ════ the answers hulled ════
 
--- the limits of two parts, hulled end by end; the sets are those of the first, which are those of every part (`same-sets` of rules)
+-- "The answer is the hull of both, end by end." The sets are those of the first, which are those of every part (`SameSetsRating` of rules)
 unfoldable pub hullLimits : Limits → Limits → Limits
 hullLimits l m = record {
   value = endsHull (l .value) (m .value);
@@ -86,7 +85,8 @@ hulled x y = hulledBy (x .outcome) (x .limits) (y .outcome) (y .limits)
 
 -- ════ the parts ════
 
--- THE RECURSION, of ranges that passed 9: plain rating at depth 0, and where the widest range is under 2 units; else both halves
+-- THE RECURSION, of ranges that passed 9. "At depth 0, or when the widest range is under 2 units, the ranges are rated as now"; else "each half is
+-- then treated in the same way with one depth fewer"
 unfoldable pub parts : ℕ → Codelist → List Range → Rating
 parts zero c rs = rateRanges c rs 0
 parts (suc d) c rs = cond (narrow rs) (rateRanges c rs 0) (hulled (parts d c (lowerPart rs)) (parts d c (upperPart rs)))
@@ -104,7 +104,7 @@ together (x ∷ y ∷ ys) = hulled x (together (y ∷ ys))
 
 -- ════ the call ════
 
--- 02's number and place of each refusal
+-- "A depth outside 0 to 6 gets 16 with place 0"; the others are those of rating
 abbrev pub numberOf : Refusal → ℕ
 numberOf refusal.Depth = 16
 numberOf (refusal.Rate r) = Rate.numberOf r
@@ -113,7 +113,7 @@ abbrev pub placeOf : Refusal → ℕ
 placeOf refusal.Depth = 0
 placeOf (refusal.Rate r) = Rate.placeOf r
 
--- the numbers in the order in which they are tested
+-- the numbers in the order in which they are tested: 16 "between 10 and 8"
 abbrev pub cutNumbers : List ℕ
 cutNumbers = 10 ∷ 16 ∷ 8 ∷ 9 ∷ 11 ∷ 12 ∷ []
 
@@ -133,12 +133,12 @@ refusedWith r = record { outcome = Refused r; limits = noLimits }
 abbrev pub isDepth : ℤ → Bool
 isDepth d = leZ (pos 0) d && leZ d (pos 6)
 
--- 9 of the uncut ranges, by the lowest bad one; then the parts
+-- "8 and 9 are checked on the uncut ranges": 9 by the lowest bad one, and then the parts
 unfoldable pub partsOf : ℕ → Codelist → List Range → ℕ → Rating
 partsOf d c rs zero = parts d c rs
 partsOf d c rs (suc a) = refused (rules.the-variants.BadRange (suc a))
 
--- 8 and 9 of the uncut ranges, and the parts
+-- 8 before them
 unfoldable pub countedOf : ℕ → Codelist → List ℤ → Rating
 countedOf d c xs =
     cond (eqb (length xs) (2 * c .factors)) (partsOf d c (pairs xs) (firstBad 1 (pairs xs))) (refused rules.the-variants.RangeCount)

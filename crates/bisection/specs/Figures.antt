@@ -17,13 +17,13 @@ use Rattle.range.specs.Arithmetic.{sumOf, negOf, timesOf, endsProduct, productO
 use Rattle.range.specs.Power.{chain, upsWithin, powAbove, powBelow, powAcrossEven, powAcrossOdd, powAcross, powBySign, powOf}
 use Rattle.range.specs.Sums.{has, sumOver, validBelow, endsProducts, productsOf, largestSquare, squareSum, squaresOf, rootSum, rootOf}
 use Rattle.range.specs.Star.{magnitudeOf, starRoot, endsStar, isHalf, starOf}
-use Rattle.rules.specs.declared.Refusal.the-variants.{Divisor}
+use Rattle.rules.specs.declared.Refusal.the-variants.{NoCodelist, RangeCount, BadRange, Divisor}
 use Rattle.rules.specs.Sets.{apart, isSingle, only}
 use Rattle.rules.specs.Table.{factorRow, addRow, addcRow, mulcRow, mulRow, powRow, invRow, lineOf}
 use Rattle.rules.specs.Run.{rowOf, invertsZero, within, runOps, factorLines, linesOf}
 use Rattle.rules.specs.Rate.{last, limitsOf, noLimits, firstBad, rateRanges}
 use Rattle.rules.specs.Figures.{_to_, −, ends}
-use Rattle.bisection.specs.declared.Refusal.the-variants.{Rate}
+use Rattle.bisection.specs.declared.Refusal.the-variants.{Depth, Rate}
 use Rattle.bisection.specs.declared.Outcome.{Outcome}
 use Rattle.bisection.specs.declared.Outcome.the-variants.{Accepted, Refused}
 use Rattle.bisection.specs.Cut.{widestFrom, widest, narrow, cutPoint, lowerPart, upperPart, hullLimits, parts, partsOf, countedOf, cutOf}
@@ -97,3 +97,32 @@ unfolding cutOf countedOf partsOf parts hullLimits lowerPart upperPart cutPoint 
     magnitudeOf starRoot endsStar isHalf starOf
     floorDiv ceilDiv floorQuot ceilQuot ceilSqrt floorSqrt rootBits ones onesIn trailingZeros
 all-right = refl
+
+-- a call, and its outcome
+pub record Call : Type 0 where
+  pub factors : ℕ
+  pub operations : List Op
+  pub numbers : List ℤ
+  pub depth : ℤ
+  pub outcome : Outcome
+
+-- the order of the refusals: each call has what the later ones are refused for, too
+abbrev pub calls : List Call
+calls =
+    -- no operation, depth 7, no numbers: 10
+    record { factors = 1; operations = []; numbers = []; depth = pos 7; outcome = Refused (Rate NoCodelist) }
+    -- depth 7, and depth −1, no numbers: 16
+    ∷ record { factors = 1; operations = Mul 1 1 ∷ []; numbers = []; depth = pos 7; outcome = Refused Depth }
+    ∷ record { factors = 1; operations = Mul 1 1 ∷ []; numbers = []; depth = − 1; outcome = Refused Depth }
+    -- depth 6, and a number too many: 8
+    ∷ record { factors = 1; operations = Mul 1 1 ∷ []; numbers = pos 2 ∷ pos 1 ∷ pos 0 ∷ []; depth = pos 6; outcome = Refused (Rate RangeCount) }
+    -- depth 6, and a range that is turned round: 9 at the factor
+    ∷ record { factors = 1; operations = Mul 1 1 ∷ []; numbers = pos 2 ∷ pos 1 ∷ []; depth = pos 6; outcome = Refused (Rate (BadRange 1)) }
+    ∷ []
+
+abbrev pub outcomeOf : Call → Outcome
+outcomeOf k = cutOf (record { codelist = codelistOf (k .factors) (map (λ o. record { op = o }) (k .operations)) }) (k .numbers) (k .depth) .outcome
+
+pub calls-right : map outcomeOf calls ≡ map (λ k. k .outcome) calls
+unfolding cutOf countedOf partsOf firstBad codelistOf ratable wellFormedOps isValid
+calls-right = refl

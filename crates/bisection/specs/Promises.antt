@@ -53,7 +53,7 @@ pub record PartOf (rs ls : List Range) : Type 0 where
   pub count : length ls ≡ length rs
   pub each : (a : ℕ) → Range.ValidInside (at ls a) (at rs a)
 
--- "Every boat of the class is in one of the parts"
+-- every point of the class is in one of the parts, and they are parts of it
 pub record Covers (d : ℕ) (rs : List Range) : Type 0 where
   pub point : (n : ℕ) (p : Point) → Holds n rs p → (ls : List Range) × (List·Memᴰ ls (leaves d rs) × Holds n ls p)
   pub part : (ls : List Range) → List·Memᴰ ls (leaves d rs) → PartOf rs ls
@@ -116,11 +116,11 @@ pub record AsRated (e : Engine) (xs : List ℤ) (d : ℤ) : Type 0 where
 pub record CutSound : Type 0 where
   -- "the lowest factor on equal width"
   pub widest : (rs : List Range) → 0 < length rs → Widest rs (widest rs)
-  -- depth 0 is plain rating, and so is every depth "when the widest range is under 2 units"
+  -- "At depth 0, or when the widest range is under 2 units, the ranges are rated as now."
   pub depth-zero : (e : Engine) (xs : List ℤ) → AsRated e xs (pos 0)
   pub under-two : (e : Engine) (xs : List ℤ) (d : ℤ) → IsDepth d
       → ((a : ℕ) → a < e .codelist .factors → widthOf (at (pairs xs) a) <ℤ pos 2) → AsRated e xs d
-  -- the parts: "Every boat of the class is in one of the parts"
+  -- the parts make up the class
   pub covers : (e : Engine) (xs : List ℤ) (d : ℕ) → Runnable (e .codelist) xs → Covers d (pairs xs)
   -- the first refusal among the ratings of the parts by "the published Hessian eigenvalue arithmetic", else the hull of them all
   pub published : (e : Engine) (xs : List ℤ) (d : ℤ) → IsDepth d → Runnable (e .codelist) xs
@@ -138,7 +138,7 @@ pub record CutSound : Type 0 where
   pub table : (e : Engine) (xs : List ℤ) (d : ℤ) (k p : ℕ) → RefusedWith (cutOf e xs d .outcome) k p ↔ CutTable (e .codelist) xs d k p
   pub one-refusal : (e : Engine) (xs : List ℤ) (d : ℤ) (q r : Refusal) → CutRefusedFor (e .codelist) xs d q
       → CutRefusedFor (e .codelist) xs d r → q ≡ r
-  -- the third, of the hulled limits and every point inside the uncut ranges: "the narrower limits still hold of every boat"
+  -- the third, of the hulled limits: "Every point of the class is still inside value, slopes and bends."
   pub sound : (e : Engine) (xs : List ℤ) (d : ℤ) → cutOf e xs d .outcome ≡ Accepted → (p : Point) → Inside (e .codelist) xs p
       → Sound (e .codelist) (cutOf e xs d .limits) p
   pub shaped : (e : Engine) (xs : List ℤ) (d : ℤ) → cutOf e xs d .outcome ≡ Accepted → Shaped (e .codelist) (cutOf e xs d .limits)
