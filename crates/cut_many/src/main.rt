@@ -3,12 +3,13 @@
 // is there to time ratings as `rate` makes them.
 ghost use Prim.Native.Nat.{_≤_};
 ghost use lib.ListN.{length};
+use codelist::NumeralRead;
 use text::Text;
 
 fn main() {
     let mut arg = [0u8; 16];
-    let k = os::arg(1, &mut arg);
-    let times = arguments::number(&arg[..k]);
+    let _ = os::arg(1, &mut arg);
+    let times = times_of(&arg);
     let mut job = [0u8; 16];
     let j = os::arg(2, &mut job);
     let mut input = [0u8; 8193];
@@ -27,4 +28,12 @@ fn answer(job: &[u8], input: &[u8], times: u64) -> Text
         return text::answer_after(input, times);
     }
     cut_text::answer_after(input, times)
+}
+
+// How often: the numeral that the bytes begin with, where a byte 0 follows it, as one does in a longer array; else once.
+fn times_of(arg: &[u8]) -> u64 {
+    match codelist::field_at(arg, 0, 0) {
+        NumeralRead::Good(w, _) => w.magnitude,
+        NumeralRead::Bad => 1,
+    }
 }

@@ -7,7 +7,7 @@ use text::Text;
 fn main() {
     let mut arg = [0u8; 16];
     let k = os::arg(1, &mut arg);
-    let times = arguments::number(&arg[..k]);
+    let times = number(&arg[..k]);
     let mut job = [0u8; 16];
     let j = os::arg(2, &mut job);
     let mut input = [0u8; 102401];
@@ -29,4 +29,25 @@ fn answer(job: &[u8], input: &[u8], times: u64) -> Text
         return fleet_text::answer_after(input, Form::Structs, times);
     }
     text::answer_after(input, times)
+}
+
+// The number that decimal digits write, up to the first other byte and to ten digits.
+fn number(s: &[u8]) -> u64 {
+    let mut x: u64 = 0;
+    let mut i = 0;
+    while i < s.len() {
+        let b = s[i];
+        if b < 48 {
+            return x;
+        }
+        if 57 < b {
+            return x;
+        }
+        if 1_000_000_000 <= x {
+            return x;
+        }
+        x = x * 10 + (b - 48) as u64;
+        i += 1;
+    }
+    x
 }

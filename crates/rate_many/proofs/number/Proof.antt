@@ -1,9 +1,9 @@
--- `arguments::number` is safe and ends. Assumes nothing.
+-- `rate_many::number` is safe and ends. Assumes nothing.
 use Prim.Native.Nat.{_-_, _<_}
 use lib.ListN.{length}
 use borrow.Author.Needs.{needs}
-use Rattle.arguments.proofs.number.Statement.{statement}
-use Rattle.arguments.proofs.number.Tie as tie
+use Rattle.rate_many.proofs.number.Statement.{statement}
+use Rattle.rate_many.proofs.number.Tie as tie
 
 abbrev Inv-loop : tie.InvT-loop
 Inv-loop s x₀ i₀ x i = x < 10000000000
