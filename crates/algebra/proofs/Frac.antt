@@ -4,8 +4,9 @@ use mathlib.Core.Path.{_≡_, refl, sym, _∙_, ap, ap₂}
 use mathlib.Core.Bool.{Bool, true, false}
 use mathlib.Core.Logic.{Equivalence}
 use mathlib.Core.Option.{Option, none, some}
-use Prim.Native.Nat.{ℕ, zero, suc, _*_, _<_}
+use Prim.Native.Nat.{ℕ, zero, suc, _*_, _/_, _≤_, _<_}
 use native.Mathlib.Nat as N
+use native.Mathlib.Omega.{arith}
 use lib.Dec.{T}
 use lib.IntN.{ℤ, pos, negsuc, negℤ, _*ℤ_, ℤ-set, *ℤ-comm, negℤ-negℤ}
 use lib.Signed.{_≤ℤ_}
@@ -137,6 +138,32 @@ inverted-cong f alike x y p = go (inverted x) (inverted y) (flip-cong (x .num) (
     go none (some b) h = absurd h
     go (some a) none h = absurd h
     go (some a) (some b) h = alike a b h
+
+-- n/d and m/e, of the same quotients rounded down: that of n is at most that of m, where n/d is m/e and where (n + 1)/d is (m + 1)/e
+quotient-≤ : (n m : ℕ) {d e : ℕ} → zero < d → zero < e → n * e ≡ m * d → n / d ≤ m / e
+quotient-≤ n m {d} {e} p q h =
+    N.le-div-iff-mul-le {k = e} q .1
+    (N.le-of-mul-le-mul-right {k = d} (omega (arith, N.mul-le-mul-right e (N.div-mul-le-self n d))) p)
+
+quotient-suc-≤ : (n m : ℕ) {d e : ℕ} → zero < d → zero < e → suc n * e ≡ suc m * d → n / d ≤ m / e
+quotient-suc-≤ n m {d} {e} p q h =
+    N.le-div-iff-mul-le {k = e} q .1
+    (N.le-of-suc-le-suc (N.lt-of-mul-lt-mul-right d {n = suc m} (omega (arith, N.mul-le-mul-right e (N.div-mul-le-self n d)))))
+
+-- a division that rounds toward −∞ gives equal fractions the same
+module _ (div : ℤ → ℕ → ℤ) (on-pos : (n d : ℕ) → div (pos n) d ≡ pos (n / d)) (on-neg : (n d : ℕ) → div (negsuc n) d ≡ negsuc (n / d)) where
+  pub floor-cong : {x y : Frac} → x ≃ y → div (x .num) (x .den) ≡ div (y .num) (y .den)
+  floor-cong {x} {y} h = go (x .num) (y .num) (x .den-pos) (y .den-pos) (h .cross)
+    where
+      go : (a b : ℤ) {d e : ℕ} → zero < d → zero < e → a *ℤ pos e ≡ b *ℤ pos d → div a d ≡ div b e
+      go (pos n) (pos m) {d} {e} p q h =
+          let f : n * e ≡ m * d = omega ints in
+          on-pos n d ∙ ap pos (N.le-antisymm (quotient-≤ n m p q f) (quotient-≤ m n q p (sym f))) ∙ sym (on-pos m e)
+      go (pos n) (negsuc m) {d} p q h = let f : ⊥ = omega (ints, posPart-neg (pos (suc m * d)), neg-dif (pos (suc m * d))) in absurd f
+      go (negsuc n) (pos m) {d} {e} p q h = let f : ⊥ = omega (ints, posPart-neg (pos (suc n * e)), neg-dif (pos (suc n * e))) in absurd f
+      go (negsuc n) (negsuc m) {d} {e} p q h =
+          let f : suc n * e ≡ suc m * d = omega (ints, neg-dif (pos (suc n * e)), neg-dif (pos (suc m * d))) in
+          on-neg n d ∙ ap negsuc (N.le-antisymm (quotient-suc-≤ n m p q f) (quotient-suc-≤ m n q p (sym f))) ∙ sym (on-neg m e)
 
 -- ════ the ring ════
 

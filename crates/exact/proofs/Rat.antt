@@ -320,3 +320,7 @@ fromℤ-is a = refl
 pub fromℤ-* : (a b : ℤ) → fromℤ a *ℚ fromℤ b ≡ fromℤ (a *ℤ b)
 unfolding fromℤ _*ℚ_
 fromℤ-* a b = sound (F.same refl refl)
+
+pub fromℤ-neg : (a : ℤ) → negℚ (fromℤ a) ≡ fromℤ (negℤ a)
+unfolding fromℤ negℚ
+fromℤ-neg a = refl

@@ -1,21 +1,27 @@
--- Units: what the exact operations on them come to in integers, and that rounded division of integers rounds them outward.
+-- Units: what the exact operations on them come to in integers, that rounded division of integers rounds them outward, and that rounding a
+-- number to an integer and to units is what specs/Units says of it.
 use mathlib.Core.Path.{_≡_, refl, sym, _∙_, ap}
 use mathlib.Core.Logic.{_↔_, inl, inr, ⊎-elim}
+use mathlib.Core.Quot.{ind}
+use mathlib.Core.HLevel.{×-prop, →-prop}
 use Prim.Native.Nat.{ℕ, zero, suc, _*_, _<_}
 use native.Mathlib.Nat as N
-use lib.IntN.{ℤ, pos, negsuc, negℤ, _+ℤ_, _*ℤ_}
+use lib.Dec.{lit<}
+use lib.IntN.{ℤ, pos, negsuc, negℤ, _+ℤ_, _*ℤ_, negℤ-negℤ}
 use lib.Signed.{_≤ℤ_, _<ℤ_, clashℤ}
 use Rattle.algebra.proofs.Ordered as Ord
 use Rattle.algebra.proofs.Solver.{_:*_, :-_, _:=_, ring}
 use Rattle.algebra.proofs.Sum.{sum, sumBelow}
-use Rattle.algebra.proofs.Int.{ints, ℤ-ring, mul-pos-dif, neg-dif, *ℤ-assoc, *ℤ-mono, ≤ℤ-of-≡, ≤ℤ-trans}
-use Rattle.exact.proofs.Div.{floorDiv, ceilDiv, floorQuot, ceilQuot, floor-le, ceil-ge, OneSign}
+use Rattle.algebra.proofs.Int.{ints, ℤ-ring, mul-pos-dif, neg-dif, neg-≤, *ℤ-assoc, *ℤ-one, *ℤ-mono, ≤ℤ-of-≡, ≤ℤ-prop, ≤ℤ-trans}
+use Rattle.algebra.proofs.Frac.{Frac, _≼_, whole}
+use Rattle.exact.proofs.Div.{floorDiv, ceilDiv, floorQuot, ceilQuot, floor-le, floor-iff, ceil-ge, OneSign}
 use Rattle.exact.proofs.Rat as Q
-use Rattle.exact.proofs.Rat.{ℚ, fromℤ, ratio, negℚ, _+ℚ_, _*ℚ_, _≤ℚ_, _<ℚ_, 0ℚ, 1ℚ, ℚ-ring, ℚ-ordered}
+use Rattle.exact.proofs.Rat.{ℚ, fromℤ, ratio, negℚ, _+ℚ_, _*ℚ_, _≤ℚ_, _<ℚ_, leQ, 0ℚ, 1ℚ, ℚ-ring, ℚ-ordered}
 use Rattle.exact.proofs.Rat.{ratio-≤, ratio-≡, ratio-+same, ratio-*, ratio-neg}
-use Rattle.exact.proofs.Rat.{fromℤ-is, negℚ-anti}
+use Rattle.exact.proofs.Rat.{≤-mk, ≤-frac, fromℤ-is, fromℤ-neg, negℚ-anti}
+use Rattle.exact.specs.Units.{floorF}
 pub use Rattle.exact.specs.Units.{scale, scale-pos, In}
-unfoldable pub use Rattle.exact.specs.Units.{units}
+unfoldable pub use Rattle.exact.specs.Units.{units, floorℚ, ceilℚ, down, up}
 
 -- ---- the operations on units, in integers
 pub units-≤ : (u v : ℤ) → (units u ≤ℚ units v) ↔ (u ≤ℤ v)
@@ -162,3 +168,55 @@ in-recip {a} {b} s i e = record {
 
     nonzero : {z : ℚ} → In a b z → ¬ (z ≡ 0ℚ)
     nonzero {z} k f = Q.≤ℚ-not-< (Q.≤ℚ-of-≡ (ap (λ t. t *ℚ z) f ∙ Q.zero-*ℚ z)) (same-sign s k k)
+
+-- ════ rounding to an integer ════
+
+floorF-iff : (q : ℤ) (x : Frac) → (q ≤ℤ floorF x) ↔ (whole q ≼ x)
+floorF-iff q x = rw (*ℤ-one (x .num)) (floor-iff q (x .num) (x .den-pos))
+
+pub floorℚ-iff : (q : ℤ) (x : ℚ) → (q ≤ℤ floorℚ x) ↔ (fromℤ q ≤ℚ x)
+unfolding floorℚ fromℤ
+floorℚ-iff q =
+    ind (λ x. ×-prop (→-prop (Q.≤ℚ-prop (fromℤ q) x)) (→-prop ≤ℤ-prop))
+    (λ a. (λ h. ≤-mk (floorF-iff q a .0 h), λ h. floorF-iff q a .1 (≤-frac (whole q) a h)))
+
+pub ceilℚ-iff : (q : ℤ) (x : ℚ) → (ceilℚ x ≤ℤ q) ↔ (x ≤ℚ fromℤ q)
+unfolding ceilℚ
+ceilℚ-iff q x = (λ h. there (floorℚ-iff (negℤ q) (negℚ x) .0 (neg-≤ h)), λ h. neg-≤ (floorℚ-iff (negℤ q) (negℚ x) .1 (back h)))
+  where
+    there : fromℤ (negℤ q) ≤ℚ negℚ x → x ≤ℚ fromℤ q
+    there h = rw (Q.negℚ-negℚ x, fromℤ-neg (negℤ q), negℤ-negℤ q) at (negℚ-anti h)
+
+    back : x ≤ℚ fromℤ q → fromℤ (negℤ q) ≤ℚ negℚ x
+    back h = rw (fromℤ-neg q) at (negℚ-anti h)
+
+-- ════ rounding to a number of units ════
+
+scaleℚ-pos : 0ℚ <ℚ fromℤ (pos scale)
+unfolding fromℤ leQ
+scaleℚ-pos = record { lt = tt }
+
+units-scale : (u : ℤ) → units u *ℚ fromℤ (pos scale) ≡ fromℤ u
+unfolding units
+units-scale u =
+    ap (units u *ℚ_) (fromℤ-is (pos scale)) ∙ ratio-* u (pos scale) _ _ ∙ ratio-≡ _ _ _ _ .1 (*ℤ-one (u *ℤ pos scale)) ∙ sym (fromℤ-is u)
+
+pub down-iff : (q : ℤ) (x : ℚ) → (q ≤ℤ down x) ↔ (units q ≤ℚ x)
+unfolding down
+down-iff q x = (
+  λ h. Q.*ℚ-cancel-≤ scaleℚ-pos (rw units-scale (floorℚ-iff q _ .0 h)),
+  λ h. floorℚ-iff q _ .1 (rw units-scale at (Q.*ℚ-monoʳ _ (Q.<ℚ→≤ℚ scaleℚ-pos) h)),
+)
+
+pub up-iff : (q : ℤ) (x : ℚ) → (up x ≤ℤ q) ↔ (x ≤ℚ units q)
+unfolding up
+up-iff q x = (
+  λ h. Q.*ℚ-cancel-≤ scaleℚ-pos (rw units-scale (ceilℚ-iff q _ .0 h)),
+  λ h. ceilℚ-iff q _ .1 (rw units-scale at (Q.*ℚ-monoʳ _ (Q.<ℚ→≤ℚ scaleℚ-pos) h)),
+)
+
+-- closed terms compute: 1.5 * (−0.3333) and 2 / 3, both ways
+rounded : (down (units (pos 15000) *ℚ units (negsuc 3332)) ≡ negsuc 4999) × (up (units (pos 15000) *ℚ units (negsuc 3332)) ≡ negsuc 4998)
+    × (down (ratio (pos 2) 3 (lit< tt)) ≡ pos 6666) × (up (ratio (pos 2) 3 (lit< tt)) ≡ pos 6667)
+unfolding down up units ratio floorℚ ceilℚ fromℤ _*ℚ_ negℚ floorDiv
+rounded = (refl, refl, refl, refl)
