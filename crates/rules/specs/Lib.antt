@@ -11,4 +11,5 @@ pub mod Exact
 pub mod Promises
 pub mod Sharper
 pub mod SameSets
+pub mod Sisters
 pub mod Figures
