@@ -7,6 +7,7 @@ use Rattle.algebra.proofs.Ordered as Ord
 use Rattle.algebra.proofs.Ordered.{OrderedRing}
 use Rattle.algebra.proofs.Sum as Sum
 use Rattle.algebra.proofs.Sum.{sumBelow}
+use Rattle.algebra.proofs.Dot.{dot-lin}
 unfoldable pub use Rattle.algebra.specs.Vectors.{dot}
 
 module _ {R : Type 0} (𝓡 : CommRing R) where
@@ -23,20 +24,13 @@ module _ {R : Type 0} (𝓡 : CommRing R) where
     unfolding dot
     dot-comm u v = Sum.sum-ext 𝓡 n (λ i l. 𝓡 .mul-comm (u i) (v i))
 
-    dot-lin : (w u v : ℕ → R) (a b : R) → dot 𝓡 n w (lin a u b v) ≡ a * dot 𝓡 n w u + b * dot 𝓡 n w v
-    unfolding dot
-    dot-lin w u v a b =
-        Sum.sum-ext 𝓡 n (λ i l. ring 𝓡 5 (λ w u v a b. w :* (a :* u :+ b :* v) := a :* (w :* u) :+ b :* (w :* v)) tt (w i) (u i) (v i) a b)
-        ∙ Sum.sum-add 𝓡 n (λ i. a * (w i * u i)) (λ i. b * (w i * v i))
-        ∙ ap₂ _+_ (Sum.sum-scale 𝓡 n a (λ i. w i * u i)) (Sum.sum-scale 𝓡 n b (λ i. w i * v i))
-
     -- the square of a combination
     norm-lin : (u v : ℕ → R) (a b : R) → dot 𝓡 n (lin a u b v) (lin a u b v)
         ≡ a * a * dot 𝓡 n u u + num 2 * (a * b) * dot 𝓡 n u v + b * b * dot 𝓡 n v v
     norm-lin u v a b =
-        dot-lin (lin a u b v) u v a b
-        ∙ ap₂ (λ s t. a * s + b * t) (dot-comm (lin a u b v) u ∙ dot-lin u u v a b)
-        (dot-comm (lin a u b v) v ∙ dot-lin v u v a b ∙ ap (λ t. a * t + b * dot 𝓡 n v v) (dot-comm v u))
+        dot-lin 𝓡 n (lin a u b v) u v a b
+        ∙ ap₂ (λ s t. a * s + b * t) (dot-comm (lin a u b v) u ∙ dot-lin 𝓡 n u u v a b)
+        (dot-comm (lin a u b v) v ∙ dot-lin 𝓡 n v u v a b ∙ ap (λ t. a * t + b * dot 𝓡 n v v) (dot-comm v u))
         ∙ ring 𝓡 5
         (λ a b uu uv vv. a :* (a :* uu :+ b :* uv) :+ b :* (a :* uv :+ b :* vv) := a :* a :* uu :+ lit 2 :* (a :* b) :* uv :+ b :* b :* vv)
         tt a b (dot 𝓡 n u u) (dot 𝓡 n u v) (dot 𝓡 n v v)

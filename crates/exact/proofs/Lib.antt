@@ -5,3 +5,4 @@ pub mod Machine
 pub mod Sqrt
 pub mod Rat
 pub mod Units
+pub mod Archimedean
