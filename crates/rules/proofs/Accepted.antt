@@ -91,27 +91,26 @@ factors-length i [] = refl
 factors-length i (r ∷ rs) = ap suc (factors-length (suc i) rs)
 
 -- what holds of the factors' lines, and is kept: of every line of a run that goes through, and of an accepted rating's
-module _ (R : Option Jet → Option Jet → Line → Type 0) (K : Kept R) {c : Codelist} (p q : Point) where
+module _ (R : (Point → Option Jet) → Line → Type 0) (K : Kept R) {c : Codelist} where
   pub run-lines : (rs : List Range) {ls : List Line} → Ratable c → length rs ≡ c .factors → linesOf c rs ≡ through ls
-      → ((a : ℕ) → a < c .factors → R (some (factorJet p a)) (some (factorJet q a)) (lineOf (factorRow a (at rs a))))
-      → Along R (exactLines c p) (exactLines c q) ls
+      → ((a : ℕ) → a < c .factors → R (λ p. some (factorJet p a)) (lineOf (factorRow a (at rs a))))
+      → Along R (exactLines c) ls
   unfolding exactLines linesOf
   run-lines rs {ls} w n e h =
       let first = factorLines 0 rs in
       let count : length first ≡ c .factors = factors-length 0 rs ∙ n in
       along-run R K (operations c) first ls
       (rw count (w .each))
-      (rw n at (along-factors R p q 0 rs (λ a k. rw (N.zero-add a) (h a (omega (arith, n))))))
+      (rw n at (along-factors R 0 rs (λ a k. rw (N.zero-add a) (h a (omega (arith, n))))))
       e
 
-module _ (R : Option Jet → Option Jet → Line → Type 0) (K : Kept R)
-    {c : Codelist} {xs : List ℤ} {l : Limits} (A : Accepted c xs l) (p q : Point)
-    (h : (a : ℕ) → a < c .factors → R (some (factorJet p a)) (some (factorJet q a)) (lineOf (factorRow a (at (pairs xs) a)))) where
-  pub every-line : Along R (exactLines c p) (exactLines c q) (A .lines)
-  every-line = run-lines R K p q (pairs xs) (A .codelist) (A .count) (A .ran) h
+  module _ {xs : List ℤ} {l : Limits} (A : Accepted c xs l)
+      (h : (a : ℕ) → a < c .factors → R (λ p. some (factorJet p a)) (lineOf (factorRow a (at (pairs xs) a)))) where
+    pub every-line : Along R (exactLines c) (A .lines)
+    every-line = run-lines (pairs xs) (A .codelist) (A .count) (A .ran) h
 
-  pub last-line : R (premiumOf c p) (premiumOf c q) (last (A .lines))
-  unfolding premiumOf linesOf
-  last-line =
-      let grown = run-grows (operations c) (factorLines 0 (pairs xs)) (A .lines) (A .ran) in
-      along-last R (omega (arith, factors-length 0 (pairs xs), A .count, A .codelist .factors .0)) every-line
+    pub last-line : R (premiumOf c) (last (A .lines))
+    unfolding premiumOf linesOf
+    last-line =
+        let grown = run-grows (operations c) (factorLines 0 (pairs xs)) (A .lines) (A .ran) in
+        along-last R (omega (arith, factors-length 0 (pairs xs), A .count, A .codelist .factors .0)) every-line

@@ -1,6 +1,6 @@
 -- The bent set lies within the depends-on set: `nested`. Each row keeps this. Assumes nothing.
 use mathlib.Core.Path.{_≡_}
-use mathlib.Core.List.{List, []}
+use mathlib.Core.List.{List}
 use mathlib.Core.Option.{Option}
 use Prim.Native.Nat.{ℕ}
 use lib.IntN.{ℤ}
@@ -17,16 +17,16 @@ use Rattle.rules.specs.Sets.{single, _∪_}
 use Rattle.rules.specs.Table.{factorRow, addRow, addcRow, mulcRow, mulRow, powRow, invRow, lineOf}
 use Rattle.rules.specs.Run.{line, rowOf}
 use Rattle.rules.specs.Rate.{pairs, limitsOf, rated, rateOf}
-use Rattle.rules.specs.Exact.{Jet}
+use Rattle.rules.specs.Exact.{Point, Jet}
 use Rattle.rules.specs.Promises.{NestedRating}
 use Rattle.rules.proofs.Members.{_⊆_, ⊆-refl, ⊆-union, none-in}
 use Rattle.rules.proofs.Along.{Along, along-line, Kept}
 use Rattle.rules.proofs.Accepted.{accepted, last-line}
 
-abbrev pub NestedLine : Option Jet → Option Jet → Line → Type 0
-NestedLine o u l = l .nonlinear ⊆ l .support
+abbrev pub NestedLine : (Point → Option Jet) → Line → Type 0
+NestedLine o l = l .nonlinear ⊆ l .support
 
-module _ {os us : List (Option Jet)} {ls : List Line} (r : Along NestedLine os us ls) where
+module _ {os : Point → List (Option Jet)} {ls : List Line} (r : Along NestedLine os ls) where
   nested-at : (i : ℕ) → Earlier (length ls) i → line ls i .nonlinear ⊆ line ls i .support
   nested-at i e = along-line NestedLine i e r
 
@@ -50,7 +50,7 @@ pub nested-sets : (c : Codelist) (xs : List ℤ) (l : Limits) → rateOf c xs �
 unfolding limitsOf
 nested-sets c xs l e =
     rw (accepted c xs l e .limits)
-    (last-line NestedLine nested-kept (accepted c xs l e) [] [] (λ a k. factor-nested a (at (pairs xs) a)))
+    (last-line NestedLine nested-kept (accepted c xs l e) (λ a k. factor-nested a (at (pairs xs) a)))
 
 pub nested : NestedRating
 nested c xs l e = record { into = nested-sets c xs l e .into }

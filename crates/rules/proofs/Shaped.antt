@@ -1,7 +1,7 @@
 -- What the limits are apart from any point: `shaped`. A line depends on some factor, and where it is bent in none its spectrum is zero. Each
 -- row within the limit keeps this. Assumes nothing.
 use mathlib.Core.Path.{_≡_, refl, sym, _∙_}
-use mathlib.Core.List.{List, []}
+use mathlib.Core.List.{List}
 use mathlib.Core.Option.{Option}
 use Prim.Native.Nat.{ℕ}
 use native.Mathlib.Omega.{arith}
@@ -23,7 +23,7 @@ use Rattle.rules.specs.Sets.{_∪_, apart}
 use Rattle.rules.specs.Table.{factorRow, addRow, addcRow, mulcRow, mulRow, powRow, invRow, lineOf}
 use Rattle.rules.specs.Run.{line, rowOf, within}
 use Rattle.rules.specs.Rate.{last, limitsOf, rated, pairs, rateOf}
-use Rattle.rules.specs.Exact.{Jet}
+use Rattle.rules.specs.Exact.{Point, Jet}
 use Rattle.rules.specs.Promises.{ShapedRating}
 use Rattle.rules.proofs.Members.{left-in, out-none, in-single, below-part}
 use Rattle.rules.proofs.Enclosed.{spectrum-valid}
@@ -95,10 +95,10 @@ module _ {l m : Line} (h : Flat l) (k : Flat m) where
   mul-flat = bent-flat (lineOf (mulRow l m)) (h .factor) both refl
 
 -- ---- the limits
-abbrev pub FlatLine : Option Jet → Option Jet → Line → Type 0
-FlatLine o u l = Flat l
+abbrev pub FlatLine : (Point → Option Jet) → Line → Type 0
+FlatLine o l = Flat l
 
-module _ {os us : List (Option Jet)} {ls : List Line} (r : Along FlatLine os us ls) where
+module _ {os : Point → List (Option Jet)} {ls : List Line} (r : Along FlatLine os ls) where
   flat-at : (i : ℕ) → Earlier (length ls) i → Flat (line ls i)
   flat-at i e = along-line FlatLine i e r
 
@@ -116,8 +116,7 @@ flat-kept = record { next = λ o f r t. flat-next r o f t }
 
 module _ (c : Codelist) (xs : List ℤ) (l : Limits) (e : rateOf c xs ≡ rated l) where
   last-flat : Flat (last (accepted c xs l e .lines))
-  last-flat =
-      last-line FlatLine flat-kept (accepted c xs l e) [] [] (λ a k. factor-flat a (at (pairs xs) a))
+  last-flat = last-line FlatLine flat-kept (accepted c xs l e) (λ a k. factor-flat a (at (pairs xs) a))
 
   spectrum-empty : l .nonlinear ≡ 0 → l .spectrum ≡ zeroRange
   unfolding limitsOf

@@ -2,7 +2,7 @@
 -- −M and M added to their hull. Assumes nothing.
 use mathlib.Core.Path.{_≡_, refl, sym, subst}
 use mathlib.Core.Bool.{Bool, true, false, cond}
-use mathlib.Core.List.{List, []}
+use mathlib.Core.List.{List}
 use mathlib.Core.Logic.{⊎-elim}
 use Prim.Native.Nat.{ℕ, _<_}
 use native.Mathlib.Decide.{ℕ-discrete}
@@ -194,12 +194,12 @@ module _ (c : Codelist) (rs : List Range) (ls : List Line) (w : Ratable c) (n : 
   shape : (i : ℕ) → Earlier (length ls) i → Shape (line ls i)
   shape i k =
       let S = along-line (SparseLine (c .factors)) i k
-      (run-lines (SparseLine (c .factors)) (sparse-kept (c .factors)) [] [] rs w n e (λ a h. factor-sparse (at rs a) h)) in
+      (run-lines (SparseLine (c .factors)) (sparse-kept (c .factors)) rs w n e (λ a h. factor-sparse (at rs a) h)) in
       record {
         small = omega (arith, S .few, pow-mono {i = c .factors} {j = 8} (w .factors .1));
         zero = S .zero;
-        flat = along-line FlatLine i k (run-lines FlatLine flat-kept [] [] rs w n e (λ a h. factor-flat a (at rs a))) .flat;
-        nested = along-line NestedLine i k (run-lines NestedLine nested-kept [] [] rs w n e (λ a h. factor-nested a (at rs a)));
+        flat = along-line FlatLine i k (run-lines FlatLine flat-kept rs w n e (λ a h. factor-flat a (at rs a))) .flat;
+        nested = along-line NestedLine i k (run-lines NestedLine nested-kept rs w n e (λ a h. factor-nested a (at rs a)));
       }
 
 -- THE NEW E IS NEVER WIDER

@@ -31,7 +31,7 @@ use Rattle.rules.proofs.InnerProducts.{weight}
 use Rattle.rules.proofs.SpectrumSum.{extended-valid, extended-bounded}
 use Rattle.rules.proofs.Independent.{Given, given-some}
 use Rattle.rules.proofs.Enclosed.{spectrum-valid}
-use Rattle.rules.proofs.Along.{along-first}
+use Rattle.rules.proofs.Along.{along-each}
 use Rattle.rules.proofs.Accepted.{Accepted, accepted, every-line, last-line}
 use Rattle.rules.proofs.Whole.{Whole, WholeLine, whole-factor, whole-kept}
 
@@ -72,14 +72,14 @@ module _ {c : Codelist} {xs : List ℤ} {l : Limits} (A : Accepted c xs l) (p : 
   few = A .codelist .factors .1
 
   factor : (q : Point) (a : ℕ) → a < c .factors
-      → WholeLine n p q (some (factorJet p a)) (some (factorJet q a)) (lineOf (factorRow a (at (pairs xs) a)))
+      → WholeLine n p q (λ p. some (factorJet p a)) (lineOf (factorRow a (at (pairs xs) a)))
   unfolding n
   factor q a k = given-some (whole-factor n few p q a (at (pairs xs) a) k (i .each a k))
 
   -- the exact premium, and what holds of it and the last line beside another point
   premium : (q : Point) → Given (λ x. Whole n p q x (premiumOf c q) result) (premiumOf c p)
   unfolding n result
-  premium q = last-line (WholeLine n p q) (whole-kept n few p q) A p q (factor q)
+  premium q = last-line (WholeLine n p q) (whole-kept n few p q) A (factor q)
 
   whole : (q : Point) → Whole n p q (premium p .given) (premiumOf c q) result
   whole q =
@@ -90,8 +90,8 @@ module _ {c : Codelist} {xs : List ℤ} {l : Limits} (A : Accepted c xs l) (p : 
   unfolding limitsOf n
   last-sound = record {
     divisors =
-        along-first (WholeLine n p p) HasValue (λ o u l g. subst HasValue (sym (g .is)) tt)
-        (every-line (WholeLine n p p) (whole-kept n few p p) A p p (factor p));
+        along-each (WholeLine n p p) HasValue p (λ o l g. subst HasValue (sym (g .is)) tt)
+        (every-line (WholeLine n p p) (whole-kept n few p p) A (factor p));
     premium = premium p .given;
     is-premium = premium p .is;
     value = W .enclosed .value;

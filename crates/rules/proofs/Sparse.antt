@@ -2,7 +2,7 @@
 -- this. Assumes nothing.
 use mathlib.Core.Path.{_≡_, refl, _∙_}
 use mathlib.Core.Bool.{Bool, true, false, cond}
-use mathlib.Core.List.{List, []}
+use mathlib.Core.List.{List}
 use mathlib.Core.Option.{Option}
 use Prim.Native.Nat.{ℕ, _^_, _≤_, _<_}
 use lib.Bits.{or-lt}
@@ -27,7 +27,7 @@ use Rattle.rules.specs.Sets.{_∪_}
 use Rattle.rules.specs.Table.{Row, factorRow, addRow, addcRow, mulcRow, mulRow, powRow, invRow, lineOf}
 use Rattle.rules.specs.Run.{line, rowOf, within}
 use Rattle.rules.specs.Rate.{last, limitsOf, rated, pairs, rateOf}
-use Rattle.rules.specs.Exact.{Jet}
+use Rattle.rules.specs.Exact.{Point, Jet}
 use Rattle.rules.proofs.Members.{outside, left-in, right-in, in-single, Below, beyond, below-power}
 use Rattle.rules.proofs.Enclosed.{at-eight, gradient-valid}
 use Rattle.rules.proofs.Along.{Along, along-line, Kept}
@@ -120,10 +120,10 @@ module _ {n : ℕ} {l m : Line} (h : Sparse n l) (k : Sparse n m) where
       (λ a i o. sum-zero (product-zero (l .value) (right-slope a i o)) (product-zero (m .value) (left-slope a i o)))
 
 -- ---- the limits
-abbrev pub SparseLine : ℕ → Option Jet → Option Jet → Line → Type 0
-SparseLine n o u l = Sparse n l
+abbrev pub SparseLine : ℕ → (Point → Option Jet) → Line → Type 0
+SparseLine n o l = Sparse n l
 
-module _ {n : ℕ} {os us : List (Option Jet)} {ls : List Line} (r : Along (SparseLine n) os us ls) where
+module _ {n : ℕ} {os : Point → List (Option Jet)} {ls : List Line} (r : Along (SparseLine n) os ls) where
   sparse-at : (i : ℕ) → Earlier (length ls) i → Sparse n (line ls i)
   sparse-at i e = along-line (SparseLine n) i e r
 
@@ -143,7 +143,7 @@ module _ (c : Codelist) (xs : List ℤ) (l : Limits) (e : rateOf c xs ≡ rated 
   -- of the last line, at any point
   last-sparse : Sparse (c .factors) (last (accepted c xs l e .lines))
   last-sparse =
-      last-line (SparseLine (c .factors)) (sparse-kept (c .factors)) (accepted c xs l e) [] []
+      last-line (SparseLine (c .factors)) (sparse-kept (c .factors)) (accepted c xs l e)
       (λ a k. factor-sparse (at (pairs xs) a) k)
 
   pub support-below : Below (c .factors) (l .support)

@@ -15,7 +15,7 @@ use Rattle.rules.specs.declared.Line.{Line}
 use Rattle.rules.specs.Table.{factorRow, addRow, addcRow, mulcRow, mulRow, powRow, invRow, lineOf}
 use Rattle.rules.specs.Run.{line, rowOf}
 use Rattle.rules.specs.Rate.{last, limitsOf}
-use Rattle.rules.specs.Exact.{Jet, addJet, addcJet, mulcJet, mulJet, powJet, using1, using2, invert, jet, exactNext, premiumOf}
+use Rattle.rules.specs.Exact.{Point, Jet, addJet, addcJet, mulcJet, mulJet, powJet, using1, using2, invert, jet, exactNext, premiumOf}
 use Rattle.rules.specs.Promises.{VanishingRating}
 use Rattle.rules.proofs.Supported.{Supported, factor-supported, addc-supported, mulc-supported, pow-supported, inv-supported}
 use Rattle.rules.proofs.Supported.{add-supported, mul-supported}
@@ -43,18 +43,18 @@ module _ {P Q : Jet → Type 0} where
   if-there2 f (there h) (there i) k = there (k _ _ h i)
 
 -- ---- an operation, over the lines before it
-abbrev SupportedLine : Option Jet → Option Jet → Line → Type 0
-SupportedLine o u l = IfThere (λ x. Supported x (l .support) (l .nonlinear)) o
+abbrev SupportedLine : Point → (Point → Option Jet) → Line → Type 0
+SupportedLine p o l = IfThere (λ x. Supported x (l .support) (l .nonlinear)) (o p)
 
 inverted : {x : Jet} {p b : ℕ} → Supported x p b → (r : Option ℚ) → IfThere (λ y. Supported y p p) (invert x r)
 inverted h none = absent
 inverted h (some y) = there (inv-supported h y)
 
-module _ {os us : List (Option Jet)} {ls : List Line} (r : Along SupportedLine os us ls) where
-  supported-at : (i : ℕ) → Earlier (length ls) i → SupportedLine (jet os i) (jet us i) (line ls i)
-  supported-at i e = along-line SupportedLine i e r
+module _ {p : Point} {os : Point → List (Option Jet)} {ls : List Line} (r : Along (SupportedLine p) os ls) where
+  supported-at : (i : ℕ) → Earlier (length ls) i → SupportedLine p (λ p. jet (os p) i) (line ls i)
+  supported-at i e = along-line (SupportedLine p) i e r
 
-  supported-next : (o : Op) → WellFormedOp (length ls) o → SupportedLine (exactNext o os) (exactNext o us) (lineOf (rowOf o ls))
+  supported-next : (o : Op) → WellFormedOp (length ls) o → SupportedLine p (λ p. exactNext o (os p)) (lineOf (rowOf o ls))
   unfolding rowOf exactNext lineOf addRow addcRow mulcRow mulRow powRow invRow
   supported-next (Add i j) f = if-there2 addJet (supported-at i (f .0)) (supported-at j (f .1)) (λ x y h k. add-supported h k)
   supported-next (Mul i j) f = if-there2 mulJet (supported-at i (f .0)) (supported-at j (f .1)) (λ x y h k. mul-supported h k)
@@ -63,14 +63,14 @@ module _ {os us : List (Option Jet)} {ls : List Line} (r : Along SupportedLine o
   supported-next (Pow i m) f = if-there1 (λ x. some (powJet x m)) (supported-at i (f .0)) (λ x h. there (pow-supported h m))
   supported-next (Inv i) f = if-there1 (λ x. invert x (recip (x .value))) (supported-at i f) (λ x h. inverted h (recip (x .value)))
 
-supported-kept : Kept SupportedLine
-supported-kept = record { next = λ o f r t. supported-next r o f }
+supported-kept : (p : Point) → Kept (SupportedLine p)
+supported-kept p = record { next = λ o f r t. supported-next r o f }
 
 pub vanishing : VanishingRating
 unfolding limitsOf factorRow lineOf
 vanishing c xs l e p premium is =
     let A = accepted c xs l e in
-    let h = last-line SupportedLine supported-kept A p p (λ a k. there (factor-supported p a)) in
+    let h = last-line (SupportedLine p) (supported-kept p) A (λ a k. there (factor-supported p a)) in
     let s : Supported premium (last (A .lines) .support) (last (A .lines) .nonlinear) = holds (rw is at h) in
     rw (A .limits)
     (record {

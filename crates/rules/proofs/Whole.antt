@@ -43,8 +43,8 @@ pub record Whole (n : ℕ) (p q : Point) (x : Jet) (u : Option Jet) (l : Line) :
   pub flat : Flat l
 
 -- there is a value at p, of which all that holds
-abbrev pub WholeLine : ℕ → Point → Point → Option Jet → Option Jet → Line → Type 0
-WholeLine n p q o u l = Given (λ x. Whole n p q x u l) o
+abbrev pub WholeLine : ℕ → Point → Point → (Point → Option Jet) → Line → Type 0
+WholeLine n p q o l = Given (λ x. Whole n p q x (o q) l) (o p)
 
 module _ (n : ℕ) (most : n ≤ 8) (p q : Point) where
   pub whole-factor : (i : ℕ) (r : Range) → i < n → InRange (coordinate p i) r
@@ -157,12 +157,12 @@ module _ (n : ℕ) (most : n ≤ 8) (p q : Point) where
     }
 
   -- ---- an operation, over the lines before it
-  module _ {os us : List (Option Jet)} {ls : List Line} (r : Along (WholeLine n p q) os us ls) where
-    whole-at : (i : ℕ) → Earlier (length ls) i → WholeLine n p q (jet os i) (jet us i) (line ls i)
+  module _ {os : Point → List (Option Jet)} {ls : List Line} (r : Along (WholeLine n p q) os ls) where
+    whole-at : (i : ℕ) → Earlier (length ls) i → WholeLine n p q (λ p. jet (os p) i) (line ls i)
     whole-at i e = along-line (WholeLine n p q) i e r
 
     whole-next : (o : Op) → WellFormedOp (length ls) o → T (within (lineOf (rowOf o ls)))
-        → WholeLine n p q (exactNext o os) (exactNext o us) (lineOf (rowOf o ls))
+        → WholeLine n p q (λ p. exactNext o (os p)) (lineOf (rowOf o ls))
     unfolding rowOf exactNext
     whole-next (Add i j) f t = given2 addJet (whole-at i (f .0)) (whole-at j (f .1)) (λ x y h k. whole-add h k t)
     whole-next (Mul i j) f t = given2 mulJet (whole-at i (f .0)) (whole-at j (f .1)) (λ x y h k. whole-mul h k t)
