@@ -1,5 +1,5 @@
--- Laws of the rules, and the proofs of what they promise: `Sound.sound`, `Shaped.shaped`, of refusals: `Refused.refused-exactly`, and of the
--- published arithmetic: `Published.published`.
+-- Laws of the rules, and the proofs of what they promise: `Sound.sound`, `Shaped.shaped`, of two boats: `Sisters.sisters`, of refusals:
+-- `Refused.refused-exactly`, and of the published arithmetic: `Published.published`.
 pub mod Members
 pub mod Along
 pub mod Accepted
@@ -22,6 +22,11 @@ pub mod Nested
 pub mod Shaped
 pub mod Vanishing
 pub mod SameSets
+-- specs/Sisters: the premium on the straight way between two points, as a function of the moment
+pub mod Smooth
+pub mod Ways
+pub mod SmoothLines
+pub mod Sisters
 -- specs/Overflow and specs/Refused: refusal 12, where a run stops, and each refusal of rating
 pub mod Formulas
 pub mod Passing

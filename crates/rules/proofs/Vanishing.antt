@@ -1,11 +1,9 @@
 -- At every point that has a premium its first derivatives are 0 outside P, and its second ones outside B: `vanishing`. No range and no limit
 -- comes into it, so that it holds outside the ranges, too. Assumes nothing.
-use mathlib.Core.Path.{_≡_, _∙_}
+use mathlib.Core.Path.{_∙_}
 use mathlib.Core.List.{List}
 use mathlib.Core.Option.{Option, none, some}
 use Prim.Native.Nat.{ℕ}
-use lib.Dec.{T}
-use lib.IntN.{ℤ}
 use lib.ListN.{length}
 use Rattle.codelist.specs.declared.Op.{Op}
 use Rattle.codelist.specs.declared.Op.the-variants.{Add, Mul, AddC, MulC, Pow, Inv}
@@ -15,7 +13,7 @@ use Rattle.rules.specs.declared.Line.{Line}
 use Rattle.rules.specs.Table.{factorRow, addRow, addcRow, mulcRow, mulRow, powRow, invRow, lineOf}
 use Rattle.rules.specs.Run.{line, rowOf}
 use Rattle.rules.specs.Rate.{last, limitsOf}
-use Rattle.rules.specs.Exact.{Point, Jet, addJet, addcJet, mulcJet, mulJet, powJet, using1, using2, invert, jet, exactNext, premiumOf}
+use Rattle.rules.specs.Exact.{Point, Jet, addJet, addcJet, mulcJet, mulJet, powJet, using1, using2, invert, jet, exactNext}
 use Rattle.rules.specs.Promises.{VanishingRating}
 use Rattle.rules.proofs.Supported.{Supported, factor-supported, addc-supported, mulc-supported, pow-supported, inv-supported}
 use Rattle.rules.proofs.Supported.{add-supported, mul-supported}
