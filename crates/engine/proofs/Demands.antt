@@ -18,7 +18,6 @@ use Rattle.codelist.specs.Write.{textOf}
 use Rattle.codelist.proofs.Accepted.{accepted-exactly, refused-empty}
 use Rattle.codelist.proofs.Ratable.{well-formed-ratable}
 use Rattle.codelist.proofs.Refused.{refused-exactly}
-use Rattle.rules.specs.declared.Outcome as rating
 use Rattle.rules.specs.declared.Refusal as rules
 use Rattle.rules.specs.declared.Limits.{Limits}
 use Rattle.rules.specs.declared.Rating.{Rating}
@@ -29,6 +28,7 @@ use Rattle.rules.proofs.Sound.{sound}
 use Rattle.rules.proofs.Shaped.{shaped}
 use Rattle.rules.proofs.Nested.{nested}
 use Rattle.rules.proofs.Vanishing.{vanishing}
+use Rattle.rules.proofs.Sisters.{sisters}
 use Rattle.rules.proofs.Published.{published}
 use Rattle.rules.specs.Refused as Rules
 use Rattle.rules.proofs.Refused as rates
@@ -288,5 +288,6 @@ demands = record {
   shaped = λ e xs h. shaped (e .codelist) xs (ratedOf e xs .limits) (accepted-rating e xs h);
   nested = λ e xs h. nested (e .codelist) xs (ratedOf e xs .limits) (accepted-rating e xs h);
   sound = λ e xs h p i. sound (e .codelist) xs (ratedOf e xs .limits) (accepted-rating e xs h) p i;
+  sisters = λ e xs h p q i j. sisters (e .codelist) xs (ratedOf e xs .limits) (accepted-rating e xs h) p q i j;
   vanishing = λ e xs h p j is. vanishing (e .codelist) xs (ratedOf e xs .limits) (accepted-rating e xs h) p j is;
 }
