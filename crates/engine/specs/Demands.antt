@@ -69,10 +69,10 @@ pub record Demands : Type 0 where
   -- 3. "Whatever accepted sheet and ranges, whatever point with fractions as coordinates inside them, whatever list v of whole numbers"
   pub sound : (e : Engine) (xs : List ℤ) → ratedOf e xs .outcome ≡ Accepted → (p : Point) → Inside (e .codelist) xs p
       → Sound (e .codelist) (ratedOf e xs .limits) p
-  -- 02, request 7: "For two boats with fractions as factor values, both inside accepted ranges of one class, the exact difference of their premiums lies
-  -- between the sum of the least and the sum of the greatest products of each slope's ends with that factor's difference."
-  pub sisters : (e : Engine) (xs : List ℤ) → ratedOf e xs .outcome ≡ Accepted → (p q : Point) → Inside (e .codelist) xs p → Inside (e .codelist) xs q
-      → Sisters (e .codelist) (ratedOf e xs .limits) p q
+  -- 02, request 7: "For two boats with fractions as factor values, both inside accepted ranges of one class, the exact difference of their
+  -- premiums lies between the sum of the least and the sum of the greatest products of each slope's ends with that factor's difference."
+  pub sisters : (e : Engine) (xs : List ℤ) → ratedOf e xs .outcome ≡ Accepted
+      → (p q : Point) → Inside (e .codelist) xs p → Inside (e .codelist) xs q → Sisters (e .codelist) (ratedOf e xs .limits) p q
   -- "Outside P the exact first derivative is 0; outside B every exact second derivative with that factor is 0": at every point that has a premium
   pub vanishing : (e : Engine) (xs : List ℤ) → ratedOf e xs .outcome ≡ Accepted → (p : Point) (premium : Jet)
       → premiumOf (e .codelist) p ≡ some premium → Vanishing (ratedOf e xs .limits) premium
