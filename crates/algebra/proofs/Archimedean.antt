@@ -1,4 +1,4 @@
--- What the limit of halved times asks of an ordered ring: halves, and that none but 0 and what is below it stays small however often doubled.
+-- What the mean value asks of an ordered ring: each number has a half, and no positive number stays below a bound however often it is doubled.
 -- Assumes nothing.
 use mathlib.Core.Path.{_≡_}
 use Prim.Native.Nat.{ℕ}

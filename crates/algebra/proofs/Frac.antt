@@ -139,7 +139,7 @@ inverted-cong f alike x y p = go (inverted x) (inverted y) (flip-cong (x .num) (
     go (some a) none h = absurd h
     go (some a) (some b) h = alike a b h
 
--- n/d and m/e, of the same quotients rounded down: that of n is at most that of m, where n/d is m/e and where (n + 1)/d is (m + 1)/e
+-- rounded down, n / d is at most m / e where they are equal fractions, and where (n + 1) / d and (m + 1) / e are
 quotient-≤ : (n m : ℕ) {d e : ℕ} → zero < d → zero < e → n * e ≡ m * d → n / d ≤ m / e
 quotient-≤ n m {d} {e} p q h =
     N.le-div-iff-mul-le {k = e} q .1
