@@ -244,7 +244,7 @@ module _ (e : Engine) (xs : List ℤ) where
   from-rate-table (overflow {line} h) = rate-refused (rules.the-variants.Overflow line) h
 
   -- rating refuses with a refusal of its own
-  rate-own : (r : Refusal) → ratedOf e xs .outcome ≡ Refused r → (q : rules.Refusal) × (r ≡ refusal.the-variants.Rate q)
+  pub rate-own : (r : Refusal) → ratedOf e xs .outcome ≡ Refused r → (q : rules.Refusal) × (r ≡ refusal.the-variants.Rate q)
   unfolding ratedOf
   rate-own r h = refused-with (rateOf (e .codelist) xs) (shape (e .codelist) xs) r h .1
 
@@ -255,7 +255,7 @@ module _ (e : Engine) (xs : List ℤ) where
       let t = rate-row (e .codelist) xs q (table q .0 (w .refused ∙ ap Refused (own .1))) in
       rw (← (w .number), ← (w .place), own .1) t
 
-  accepted-rating : ratedOf e xs .outcome ≡ Accepted → rateOf (e .codelist) xs ≡ Rate.rated (ratedOf e xs .limits)
+  pub accepted-rating : ratedOf e xs .outcome ≡ Accepted → rateOf (e .codelist) xs ≡ Rate.rated (ratedOf e xs .limits)
   unfolding ratedOf
   accepted-rating h = rated-with (rateOf (e .codelist) xs) (shape (e .codelist) xs) h
 
