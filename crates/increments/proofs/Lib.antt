@@ -1,0 +1,7 @@
+-- the code: division by a shift, the sums, and whether both boats are of the class
+pub mod Shifting
+pub mod Totals
+pub mod Outside
+pub mod Answers
+
+

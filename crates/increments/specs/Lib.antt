@@ -1,0 +1,3 @@
+-- Two boats of one class: the call, and what the code holds.
+pub mod Call
+pub mod Steps
