@@ -37,7 +37,7 @@ unfolding wholeField
 whole-length (pos m) = omega (arith, decimal-length 19 m)
 whole-length (negsuc m) = omega (arith, decimal-length 19 (suc m))
 
-range-length : (r : Range) → length (rangeFields r) ≤ 45
+pub range-length : (r : Range) → length (rangeFields r) ≤ 45
 unfolding rangeFields
 range-length r = simp length-append (omega (arith, whole-length (r .low), whole-length (r .high)))
 

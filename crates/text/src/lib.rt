@@ -50,7 +50,7 @@ fn whole_field(bytes: &mut [u8], at: usize, x: i64) -> usize
 }
 
 // The low and the high of a range, and the line's end.
-fn range_fields(bytes: &mut [u8], at: usize, x: Range) -> usize
+pub fn range_fields(bytes: &mut [u8], at: usize, x: Range) -> usize
     ensures { λ r. ⌜ lent (now (bytes .exit)) r ≡ putText (lent (now (bytes .entry)) at) (rangeFields x) ⌝ }
 {
     let low = whole_field(bytes, at, x.low);
