@@ -49,6 +49,7 @@ from reference.outcome import Refusal
 from reference.ranges import UNIT, Range
 from reference.rating import Result
 from reference.sheet import load
+from reference.sisters import sisters_printed
 from reference.text import printed, run
 from reference.tidy import tidy_printed
 from tally import DIFFERENCES_SHOWN, Tally, difference
@@ -318,6 +319,7 @@ PRINTS = {
     "tidy": tidy_printed,
     "fleet": lambda text: fleet_printed(Fleet().run(text)),
     "cut": cut_printed,
+    "sisters": sisters_printed,
 }
 
 

@@ -8,4 +8,5 @@ text.py    the program `rate`: from the bytes of its input to the bytes it print
 tidy.py    02, request 1: tidied sheets, and the program `tidy`
 fleet.py   02, request 3: figures over a list of boats, and the program `fleet`
 cut.py     02, request 6: rating to a depth, and the program `cut`
+sisters.py 02, request 7: limits of the difference of two boats, and the program `sisters`
 """
