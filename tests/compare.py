@@ -1,8 +1,9 @@
 #!/usr/bin/env python3
-"""Compares the programs `rate`, `tidy`, `fleet` and `cut` with the papers' rules over unlimited whole numbers and exact fractions (tests/reference).
+"""Compares the programs `rate`, `tidy`, `fleet`, `cut` and `sisters` with the papers' rules over unlimited whole numbers and exact fractions
+(tests/reference).
 
-tests/compare.py --binary PATH [--tidy PATH [--tidy-into PATH]] [--fleet PATH [--rate-many PATH]] [--cut PATH [--cut-many PATH]] [--seed N]
-        [--count N] [--dead-lines N] [--fleets N] [--cuts N] [--jobs N]
+tests/compare.py --binary PATH [--tidy PATH [--tidy-into PATH]] [--fleet PATH [--rate-many PATH]] [--cut PATH [--cut-many PATH]] [--sisters PATH]
+        [--seed N] [--count N] [--dead-lines N] [--fleets N] [--cuts N] [--pairs N] [--jobs N]
     `rate`: the figures of the papers, the examples, inputs that two refusals fit, and random ones: every printed byte; the bends beside those
     with each square rounded (02, request 2) and those without special cases of a product (request 4), which must be no narrower; for a share of the
     accepted random ones also the exact premium and its derivatives, as fractions, at a point inside the ranges
@@ -11,6 +12,8 @@ tests/compare.py --binary PATH [--tidy PATH [--tidy-into PATH]] [--fleet PATH [-
     `fleet`: lists of boats (fleets.py), the figures of the request and the example: every printed byte
     `cut`: classes that are cut finer (cuts.py), the figures of the request and the examples: every printed byte; of what is printed also that a deeper
     cut is no wider, and for a share the exact premium and its derivatives, at cut points among others (cutting.py)
+    `sisters`: two boats of a class (pairs.py), the figures of the request and the example: every printed byte; of what is printed also that the exact
+    difference of the premiums is inside, and for a share that of two points with fractions, and the boats exchanged (sister_boats.py)
     `rate_many`: the lists of `fleet`, by the other form in which boats are handed over
     `cut_many`: a share of the inputs of `cut`, each made a few times
 tests/compare.py --self-test VECTORS [--program NAME]
@@ -18,8 +21,8 @@ tests/compare.py --self-test VECTORS [--program NAME]
     else the vector's "kind", or `rate` where that is no program's name
 
 Fails, too, where a rule, a refusal, a wrong rule of errors.py or an order of two refusals (orders.py) was never met, or less often than it has to be
-(fleet_page.py, cutting.py). The same seed gives the same inputs, for any number of processes that they are dealt out to (--jobs). The closing line counts each
-input once for each program.
+(fleet_page.py, cutting.py, sister_boats.py). The same seed gives the same inputs, for any number of processes that they are dealt out to (--jobs). The
+closing line counts each input once for each program.
 """
 import argparse
 import json
@@ -34,11 +37,12 @@ from pathlib import Path
 import cuts
 import dead_lines
 import fleets
+import pairs
 from cutting import CutComparison
 from errors import (
     ERRORS, LOADING_ERRORS, SPECIAL_ERRORS, SPECIAL_STEPS, STEPS, ZERO_FIELD, CasesNotApplied, SquaresRoundedEachInCross, SquaresRoundedEachInSq,
     uncounted)
-from figures import FIGURES, LIMITED, REPORTED, TIDIED
+from figures import APART, FIGURES, LIMITED, REPORTED, TIDIED
 from fleet_page import FleetComparison
 from generate import box_text, case
 from orders import ORDERS, cases, orders_of
@@ -52,6 +56,7 @@ from reference.sheet import load
 from reference.sisters import sisters_printed
 from reference.text import printed, run
 from reference.tidy import tidy_printed
+from sister_boats import SistersComparison
 from tally import DIFFERENCES_SHOWN, Tally, difference
 from tidying import TidyComparison
 
@@ -60,6 +65,7 @@ EXACT_SHARE = 0.5
 ORDER_ROUNDS = 3  # inputs for each order
 FLEET_ROUNDS = 3  # inputs for each way in which a list of boats is refused, and for each of its edges
 CUT_ROUNDS = 2  # inputs for each way in which a first line is refused, for each order behind one, and for each edge
+SISTERS_ROUNDS = 2  # inputs for each way in which boat lines are refused, for each order before them, and for each edge
 
 SPECIAL_CASES = ["mul, case 4", "mul, case 7", "mul, case 10"]
 
@@ -314,6 +320,24 @@ def fixed_cut_inputs(seed):
             yield f"'{name}', {number}", text, None
 
 
+def sisters_inputs(seed, count, share):
+    """Inputs of `sisters`: a name, the bytes, and the print where it is written down."""
+    yield from [*fixed_sisters_inputs(seed)][share]
+    for number in range(count)[share]:
+        kind, text = pairs.case(random.Random(f"{seed}/sisters/{number}"))
+        yield f"case {number} ({kind})", text, None
+
+
+def fixed_sisters_inputs(seed):
+    for name, text, expected in APART:
+        yield f"figure '{name}'", text, expected
+    for example in sorted((EXAMPLES / "sisters").glob("*.in")):
+        yield f"example '{example.stem}'", example.read_bytes(), example.with_suffix(".out").read_bytes()
+    for number in range(SISTERS_ROUNDS):
+        for name, text in pairs.cases(random.Random(f"{seed}/boats/{number}")):
+            yield f"'{name}', {number}", text, None
+
+
 PRINTS = {
     "rate": lambda text: printed(run(text).answer),
     "tidy": tidy_printed,
@@ -347,6 +371,7 @@ def main():
     parser.add_argument("--tidy-into", help="the program `tidy_into`, beside it")
     parser.add_argument("--fleet", help="the program `fleet`")
     parser.add_argument("--cut", help="the program `cut`")
+    parser.add_argument("--sisters", help="the program `sisters`")
     parser.add_argument("--rate-many", help="the program `rate_many`, beside `fleet`")
     parser.add_argument("--cut-many", help="the program `cut_many`, beside `cut`")
     parser.add_argument("--seed", type=int, default=1)
@@ -354,6 +379,7 @@ def main():
     parser.add_argument("--dead-lines", type=int, default=1500, help="random inputs with dead lines, where `tidy` is compared")
     parser.add_argument("--fleets", type=int, default=600, help="random lists of boats, where `fleet` is compared")
     parser.add_argument("--cuts", type=int, default=2500, help="random classes that are cut, where `cut` is compared")
+    parser.add_argument("--pairs", type=int, default=2500, help="random classes with two boats, where `sisters` is compared")
     parser.add_argument("--jobs", type=int, default=os.cpu_count() or 1, help="processes that the inputs are dealt out to")
     parser.add_argument("--self-test", metavar="VECTORS")
     parser.add_argument("--program", choices=PRINTS, help="whose vectors they are, if not their kind's")
@@ -362,7 +388,8 @@ def main():
         sys.exit(not self_test(arguments.self_test, arguments.program))
     if not arguments.binary:
         parser.error("--binary or --self-test")
-    for path in (arguments.binary, arguments.tidy, arguments.tidy_into, arguments.fleet, arguments.rate_many, arguments.cut, arguments.cut_many):
+    programs = ("binary", "tidy", "tidy_into", "fleet", "rate_many", "cut", "cut_many", "sisters")
+    for path in (getattr(arguments, program) for program in programs):
         if path and not Path(path).is_file():
             parser.error(f"no program {path}")
     if arguments.jobs < 1:
@@ -392,7 +419,11 @@ def compared(arguments, share):
     if cutting:
         for name, text, expected in cut_inputs(arguments.seed, arguments.cuts, share):
             cutting.compare(name, text, expected)
-    return [comparison for comparison in (rating, tidying, paging, cutting) if comparison]
+    sisters = SistersComparison(Path(arguments.sisters).resolve()) if arguments.sisters else None
+    if sisters:
+        for name, text, expected in sisters_inputs(arguments.seed, arguments.pairs, share):
+            sisters.compare(name, text, expected)
+    return [comparison for comparison in (rating, tidying, paging, cutting, sisters) if comparison]
 
 
 def added_up(arguments):

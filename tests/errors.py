@@ -5,7 +5,9 @@ readings of sentences that decide a result, near misses of 02's request 2, the s
 special cases, of their bends, and of what is refused. Those of loading are near misses of request 5: of which lines are refused with 15, of its
 number and place, and of when it comes. Those of tidying (request 1) are near misses of what is used, what is kept and how it is renumbered; those
 of the fleet page (request 3), of what a boat is, of what is counted, summed and compared, and of which lists are taken; those of classes cut finer
-(request 6), of which range is cut, where and how often, of what is made of the two halves, of which depths are taken, and of the first line.
+(request 6), of which range is cut, where and how often, of what is made of the two halves, of which depths are taken, and of the first line; those of
+sister boats (request 7), of which products are summed and how the sums are rounded, of which boats are taken and when that is asked, and of the boat
+lines.
 """
 import re
 from math import isqrt
@@ -15,7 +17,8 @@ from reference.fleet import MOST_INPUT, RECORD, Fleet, rated
 from reference.outcome import Refusal, Refused, refuse
 from reference.ranges import LIMIT, UNIT, ZERO, PastLimit, Range
 from reference.rating import SPECIAL_LIMIT, Result, Rules, ranges_of
-from reference.sheet import MOST_BYTES, REFERENCES, Loading, Operation, load, sheet_text, text_lines
+from reference.sheet import MOST_BYTES, MOST_FACTORS, NUMERAL, REFERENCES, Loading, Operation, load, sheet_text, text_lines
+from reference.sisters import Difference, Sisters
 from reference.text import MOST_INPUT as MOST_RATED
 from reference.text import parted
 from reference.tidy import Tidying, last_line, operation_at
@@ -1728,4 +1731,920 @@ FIRST_LINE_ERRORS = [
     OtherFormZero, OtherFormTwo, OtherFormEight, OtherFormFirst, NoFirstLineSixteen, FirstLineLeftOut, TimesZeroRated, SixteenBeforeFifteen,
     ZerosInFrontTaken, MinusZeroDepth, PlusTaken, BlanksTaken, BlanksAroundTaken, TabsTaken, CapitalsTaken, AnyWordTaken, NoWordTaken, Byte13Skipped,
     FieldsBehindIgnored, NoNumeralZero, EmptyLineZero,
+]
+
+
+# ---- sister boats: the limits
+
+class LowEndForLeast(Sisters):
+    """The low end of a slope taken for the least product, whatever the sign of the difference."""
+    def least(self, slope, d):
+        return slope.low * d
+
+
+class HighEndForGreatest(Sisters):
+    """The high end of a slope taken for the greatest product, whatever the sign of the difference."""
+    def greatest(self, slope, d):
+        return slope.high * d
+
+
+class HighEndForLeast(Sisters):
+    """The high end of a slope taken for the least product."""
+    def least(self, slope, d):
+        return slope.high * d
+
+
+class LowEndForGreatest(Sisters):
+    """The low end of a slope taken for the greatest product."""
+    def greatest(self, slope, d):
+        return slope.low * d
+
+
+class LeastAndGreatestExchanged(Sisters):
+    """The sum of the greatest products for the low limit, and that of the least ones for the high."""
+    def least(self, slope, d):
+        return super().greatest(slope, d)
+
+    def greatest(self, slope, d):
+        return super().least(slope, d)
+
+
+class OneSlopeEndForAll(Sisters):
+    """The low end of every slope, or the high end of every slope: the less of the two sums, and the greater."""
+    def sums(self, slopes, apart):
+        return [sum(slope[end] * d for slope, d in zip(slopes, apart)) for end in (0, 1)]
+
+    def least_sum(self, slopes, apart):
+        return min(self.sums(slopes, apart))
+
+    def greatest_sum(self, slopes, apart):
+        return max(self.sums(slopes, apart))
+
+
+class SomeFactors(Sisters):
+    """Some factors left out of the sums."""
+    left = slice(None)
+
+    def least_sum(self, slopes, apart):
+        return super().least_sum(slopes[self.left], apart[self.left])
+
+    def greatest_sum(self, slopes, apart):
+        return super().greatest_sum(slopes[self.left], apart[self.left])
+
+
+class FirstFactorSummed(SomeFactors):
+    """The first factor's products alone."""
+    left = slice(1)
+
+
+class LastFactorLeftOut(SomeFactors):
+    """The last factor left out of the sums."""
+    left = slice(-1)
+
+
+class FirstFactorLeftOut(SomeFactors):
+    """The first factor left out of the sums."""
+    left = slice(1, None)
+
+
+class LastFactorSummed(SomeFactors):
+    """The last factor's products alone."""
+    left = slice(-1, None)
+
+
+class LowRoundedUp(Sisters):
+    """The low limit rounded up."""
+    def down(self, products):
+        return self.up(products)
+
+
+class HighRoundedDown(Sisters):
+    """The high limit rounded down."""
+    def up(self, products):
+        return self.down(products)
+
+
+class RoundedInward(Sisters):
+    """The low limit rounded up, and the high one down."""
+    def down(self, products):
+        return super().up(products)
+
+    def up(self, products):
+        return super().down(products)
+
+
+class LimitsTowardZero(Sisters):
+    """Both limits rounded toward zero."""
+    def down(self, products):
+        return abs(products) // UNIT * (1 if products >= 0 else -1)
+
+    up = down
+
+
+class LimitsAwayFromZero(Sisters):
+    """Both limits rounded away from zero."""
+    def down(self, products):
+        return -(-abs(products) // UNIT) * (1 if products >= 0 else -1)
+
+    up = down
+
+
+class LimitsToNearest(Sisters):
+    """Both limits rounded to the nearest unit."""
+    def down(self, products):
+        return (products + UNIT // 2) // UNIT
+
+    up = down
+
+
+class LowLessOne(Sisters):
+    """The low limit divided toward zero and lowered by a unit where it is below 0, rounded or not."""
+    def down(self, products):
+        return products // UNIT if products >= 0 else -(-products // UNIT) - 1
+
+
+class HighPlusOne(Sisters):
+    """The high limit divided and raised by a unit, rounded or not."""
+    def up(self, products):
+        return products // UNIT + 1
+
+
+class ProductsRounded(Sisters):
+    """Each product rounded by itself, and the rounded ones summed."""
+    def least(self, slope, d):
+        return super().down(super().least(slope, d))
+
+    def greatest(self, slope, d):
+        return super().up(super().greatest(slope, d))
+
+    def down(self, products):
+        return products
+
+    up = down
+
+
+class NotDivided(Sisters):
+    """The sums not divided."""
+    def down(self, products):
+        return products
+
+    up = down
+
+
+class OtherWayRound(Sisters):
+    """The first boat's value less the second one's."""
+    def apart(self, first, second):
+        return super().apart(second, first)
+
+
+class MagnitudesApart(Sisters):
+    """How far the values are apart, without the sign."""
+    def apart(self, first, second):
+        return [abs(d) for d in super().apart(first, second)]
+
+
+class ApartOf32Bits(Sisters):
+    """The differences kept in 32 bits."""
+    def apart(self, first, second):
+        return [in_32_bits(d) for d in super().apart(first, second)]
+
+
+class SumsOfBits(Sisters):
+    """The sums kept in fewer bits than they need."""
+    def kept(self, total):
+        raise NotImplementedError
+
+    def least_sum(self, slopes, apart):
+        return self.kept(super().least_sum(slopes, apart))
+
+    def greatest_sum(self, slopes, apart):
+        return self.kept(super().greatest_sum(slopes, apart))
+
+
+class SumsOf64Bits(SumsOfBits):
+    """The sums kept in 64 bits."""
+    def kept(self, total):
+        return (total + 2 ** 63) % 2 ** 64 - 2 ** 63
+
+
+class SumsAtMost63Bits(SumsOfBits):
+    """The sums held at the ends of 64 bits."""
+    def kept(self, total):
+        return max(-2 ** 63, min(total, 2 ** 63 - 1))
+
+
+class SumsOf64BitsAndSign(SumsOfBits):
+    """The sums kept in 64 bits beside the sign."""
+    def kept(self, total):
+        return abs(total) % 2 ** 64 * (1 if total >= 0 else -1)
+
+
+class SumsWithinLimit(Sisters):
+    """The limits held at the limit of 01, which no difference of two premiums passes by more than itself."""
+    def limits(self, result, first, second):
+        return Difference(*(max(-2 * LIMIT, min(end, 2 * LIMIT)) for end in super().limits(result, first, second)))
+
+
+class WithinValue(Sisters):
+    """The limits no wider than the value's range allows, which holds of the exact difference, but is not asked for."""
+    def limits(self, result, first, second):
+        low, high = super().limits(result, first, second)
+        width = result.value.high - result.value.low
+        return Difference(max(low, -width), min(high, width))
+
+
+class OfValueAlone(Sisters):
+    """The limits that the value's range gives."""
+    def limits(self, result, first, second):
+        width = result.value.high - result.value.low
+        return Difference(-width, width)
+
+
+class WithZero(Sisters):
+    """0 always inside the limits."""
+    def limits(self, result, first, second):
+        low, high = super().limits(result, first, second)
+        return Difference(min(low, 0), max(high, 0))
+
+
+class BothSigns(Sisters):
+    """The limits made so wide that they hold for the boats exchanged, too."""
+    def limits(self, result, first, second):
+        low, high = super().limits(result, first, second)
+        far = max(-low, high)
+        return Difference(-far, far)
+
+
+class MiddleOfSlope(Sisters):
+    """The middle of a slope taken for both products."""
+    def least(self, slope, d):
+        return (slope.low + slope.high) // 2 * d
+
+    greatest = least
+
+
+class OtherRanges(Sisters):
+    """The slopes of other ranges than the class's, inside them, so that these are accepted, too."""
+    def others(self, first, second):
+        raise NotImplementedError
+
+    def limits(self, result, first, second):
+        others = [end for pair in self.others(first, second) for end in pair]
+        return super().limits(self.rated_class(self.now, others), first, second)
+
+    def call(self, sheet, ends, values):
+        self.now = sheet
+        return super().call(sheet, ends, values)
+
+
+class RangesBetweenBoats(OtherRanges):
+    """The slopes of the least ranges that hold both boats. These limits hold, too, and are narrower; but the class's slopes are asked for."""
+    def others(self, first, second):
+        return map(sorted, zip(first, second))
+
+
+class SlopesAtFirst(OtherRanges):
+    """The slopes at the first boat."""
+    def others(self, first, second):
+        return zip(first, first)
+
+
+class SlopesAtSecond(OtherRanges):
+    """The slopes at the second boat."""
+    def others(self, first, second):
+        return zip(second, second)
+
+
+class OfClassCut(Sisters):
+    """The slopes of the class cut to depth 1, and not "plain rating, uncut"."""
+    def rated_class(self, sheet, ends):
+        super().rated_class(sheet, ends)
+        return Cutting().call(sheet, list(ends), 1)
+
+
+# ---- sister boats: which boats are taken, and when that is asked
+
+class OneBoatUntested(Sisters):
+    """One boat not tested."""
+    tested = None
+
+    def check_inside(self, ranges, *boats):
+        super().check_inside(ranges, boats[self.tested], boats[self.tested])
+
+
+class SecondUntested(OneBoatUntested):
+    """Only the first boat tested."""
+    tested = 0
+
+
+class FirstUntested(OneBoatUntested):
+    """Only the second boat tested."""
+    tested = 1
+
+
+class FirstRangeForAll(Sisters):
+    """Each factor's values tested against the first factor's range."""
+    def check_inside(self, ranges, first, second):
+        super().check_inside(ranges[:1] * len(ranges), first, second)
+
+
+class FirstFactorTested(Sisters):
+    """Only the first factor's values tested."""
+    def check_inside(self, ranges, first, second):
+        super().check_inside(ranges[:1], first, second)
+
+
+class LastFactorUntested(Sisters):
+    """The last factor's values not tested."""
+    def check_inside(self, ranges, first, second):
+        super().check_inside(ranges[:-1], first, second)
+
+
+class HighestFactor(Sisters):
+    """9 at the highest factor."""
+    def check_inside(self, ranges, first, second):
+        for factor in range(len(ranges), 0, -1):
+            if any(self.outside(ranges[factor - 1], boat[factor - 1]) for boat in (first, second)):
+                refuse(9, factor)
+
+
+class FirstBoatFirst(Sisters):
+    """9 of the first boat ahead of 9 of the second in a lower factor."""
+    def check_inside(self, ranges, first, second):
+        super().check_inside(ranges, first, first)
+        super().check_inside(ranges, second, second)
+
+
+class SecondBoatFirst(Sisters):
+    """9 of the second boat ahead of 9 of the first in a lower factor."""
+    def check_inside(self, ranges, first, second):
+        super().check_inside(ranges, second, second)
+        super().check_inside(ranges, first, first)
+
+
+class BothBoatsOutside(Sisters):
+    """9 only where both boats are outside in a factor."""
+    def check_inside(self, ranges, first, second):
+        for factor, (r, *values) in enumerate(zip(ranges, first, second), 1):
+            if all(self.outside(r, value) for value in values):
+                refuse(9, factor)
+
+
+class LowEndExcluded(Sisters):
+    """The low end no longer in the range."""
+    def outside(self, r, value):
+        return not r.low < value <= r.high
+
+
+class HighEndExcluded(Sisters):
+    """The high end no longer in the range."""
+    def outside(self, r, value):
+        return not r.low <= value < r.high
+
+
+class EndsExcluded(Sisters):
+    """Neither end in the range."""
+    def outside(self, r, value):
+        return not r.low < value < r.high
+
+
+class BelowTaken(Sisters):
+    """A value below the range taken."""
+    def outside(self, r, value):
+        return value > r.high
+
+
+class AboveTaken(Sisters):
+    """A value above the range taken."""
+    def outside(self, r, value):
+        return value < r.low
+
+
+class NextBelowTaken(Sisters):
+    """A value one unit below the range taken."""
+    def outside(self, r, value):
+        return not r.low - 1 <= value <= r.high
+
+
+class NextAboveTaken(Sisters):
+    """A value one unit above the range taken."""
+    def outside(self, r, value):
+        return not r.low <= value <= r.high + 1
+
+
+class OnlyLimitTested(Sisters):
+    """The values tested against the limit, and not against the class's ranges."""
+    def outside(self, r, value):
+        return abs(value) > LIMIT
+
+
+class BeyondTaken(Sisters):
+    """A value outside the range put at its nearer end."""
+    def check_inside(self, ranges, first, second):
+        pass
+
+    def call(self, sheet, ends, values):
+        if values is not None and len(values) == len(ends):
+            values = [max(low, min(value, high)) for low, high, value in zip(ends[::2] * 2, ends[1::2] * 2, values)]
+        return super().call(sheet, ends, values)
+
+
+class ValuesOf32Bits(Sisters):
+    """The boats' values kept in 32 bits."""
+    def values(self, text, factors):
+        values = super().values(text, factors)
+        return None if values is None else [in_32_bits(value) for value in values]
+
+
+class NinePlaced(Sisters):
+    """9 of the boats at another place."""
+    def place(self, factor, boat):
+        raise NotImplementedError
+
+    def check_inside(self, ranges, first, second):
+        for factor, (r, *values) in enumerate(zip(ranges, first, second), 1):
+            for boat, value in enumerate(values, 1):
+                if self.outside(r, value):
+                    refuse(9, self.place(factor, boat))
+
+
+class NineAtZero(NinePlaced):
+    """9 of the boats with place 0."""
+    def place(self, factor, boat):
+        return 0
+
+
+class NineAtBoat(NinePlaced):
+    """9 of the boats with the boat as place."""
+    def place(self, factor, boat):
+        return boat
+
+
+class NineFromZero(NinePlaced):
+    """9 of the boats with factors counted from 0."""
+    def place(self, factor, boat):
+        return factor - 1
+
+
+class Interleaved(Sisters):
+    """The boats' numbers taken two per factor, and not boat by boat."""
+    def boats(self, factors, values):
+        super().boats(factors, values)
+        return values[::2], values[1::2]
+
+
+class SecondBoatMissing(Sisters):
+    """One boat taken for both."""
+    def boats(self, factors, values):
+        if values is not None and len(values) == factors:
+            values = values * 2
+        return super().boats(factors, values)
+
+    def values(self, text, factors):
+        alone = super().values(text + (self.parts(text)[1] or b""), factors)
+        return alone[:factors] if alone and text_lines(self.parts(text)[1] or b"")[0][1:] == [] else super().values(text, factors)
+
+
+class EqualBoatsFirst(Sisters):
+    """0, 0 for equal boats, whatever their values and the class's refusals of codelist lines are."""
+    def call(self, sheet, ends, values):
+        if values and len(values) == len(ends) == 2 * sheet.factors and values[:sheet.factors] == values[sheet.factors:]:
+            ranges_of(sheet, ends)
+            return Difference(0, 0)
+        return super().call(sheet, ends, values)
+
+
+class EqualBoatsUntested(Sisters):
+    """0, 0 for equal boats of an accepted class, outside its ranges, too."""
+    def check_inside(self, ranges, first, second):
+        if first != second:
+            super().check_inside(ranges, first, second)
+
+
+class NineBeforeEight(Sisters):
+    """9 of the boats ahead of 8, for the numerals that can be read."""
+    def boats(self, factors, values):
+        try:
+            return super().boats(factors, values)
+        except Refused:
+            rows = [line.split(b"\t") for line in self.lines[:2]]
+            for a, r in enumerate(self.ranges):
+                fields = [row[a] for row in rows if len(row) > a and re.fullmatch(NUMERAL, row[a])]
+                if any(self.outside(r, int(field)) for field in fields):
+                    refuse(9, a + 1)
+            raise
+
+    def call(self, sheet, ends, values):
+        self.rated_class(sheet, ends)
+        self.ranges = ranges_of(sheet, ends)
+        return super().call(sheet, ends, values)
+
+    def answer(self, text):
+        self.lines = text_lines(self.parts(text)[1] or b"")[0]
+        return super().answer(text)
+
+
+class BoatsEarlier(Sisters):
+    """The boats' refusals ahead of some of the class's."""
+    earlier = ()  # of the boats' own
+    later = ()    # of the class's
+
+    def call(self, sheet, ends, values):
+        own = self.rated(sheet, tuple(ends))
+        if isinstance(own, Refusal) and own.number in self.later:
+            ranges = [Range(*ends[k:k + 2]) for k in range(0, len(ends), 2)]
+            try:
+                boats = self.boats(sheet.factors, values)
+                self.check_inside(ranges, *boats)
+            except Refused as refused:
+                if refused.args[0].number in self.earlier:
+                    raise
+        return super().call(sheet, ends, values)
+
+
+class BoatsBeforeClass(BoatsEarlier):
+    """The boats' 8 and 9 ahead of the class's 8, 9, 11 and 12."""
+    earlier, later = (8, 9), (8, 9, 11, 12)
+
+
+class BoatsBeforeLines(BoatsEarlier):
+    """The boats' 8 and 9 behind the class's 8 and 9, and ahead of 11 and 12."""
+    earlier, later = (8, 9), (11, 12)
+
+
+class EightBeforeNine(BoatsEarlier):
+    """The boats' 8 ahead of the class's 9."""
+    earlier, later = (8,), (9, 11, 12)
+
+
+class EightBeforeLines(BoatsEarlier):
+    """The boats' 8 ahead of 11 and 12, and their 9 behind."""
+    earlier, later = (8,), (11, 12)
+
+
+class NineBeforeLines(BoatsEarlier):
+    """The boats' 9 ahead of 11 and 12, and their 8 behind."""
+    earlier, later = (9,), (11, 12)
+
+
+class NineBeforeBox(Sisters):
+    """The boats' 9, for a value beyond the limit, ahead of the class's 8 for the form of its box lines."""
+    def ends(self, text):
+        try:
+            return super().ends(text)
+        except Refused:
+            factors = self.sheet(text).factors
+            values = self.values(text, factors) or []
+            beyond = [k % factors + 1 for k, value in enumerate(values) if abs(value) > LIMIT]
+            if beyond:
+                refuse(9, min(beyond))
+            raise
+
+
+class BoatsBeforeLoading(Sisters):
+    """8 for the boat lines ahead of loading's refusals, by the number of numerals in the first of them."""
+    def sheet(self, text):
+        if len(text) <= MOST_RATED:
+            behind = self.parts(text)[1]
+            if self.values(text, (behind or b"").partition(b"\n")[0].count(b"\t") + 1) is None:
+                refuse(8, 0)
+        return super().sheet(text)
+
+
+# ---- sister boats: the boat lines
+
+class PartedWithoutByte10(Sisters):
+    """A last line `boats` parting the input without its byte 10."""
+    def parts(self, text):
+        return super().parts(text + b"\n" if text.endswith(b"\nboats") else text)
+
+
+class PartedAtLast(Sisters):
+    """The last line `boats` parting the input, and not the first."""
+    def parts(self, text):
+        before, parting, behind = text.rpartition(b"\nboats\n")
+        return (before + b"\n", behind) if parting else super().parts(text)
+
+
+class BoxSoughtFirst(Sisters):
+    """A line `boats` before the line `box` taken for a line of the sheet."""
+    def parts(self, text):
+        sheet, box = parted(text)
+        if box is None:
+            return text, None
+        before, behind = parted(box, b"boats")
+        return sheet + b"box\n" + before, behind
+
+
+class BoxBehindBoats(Sisters):
+    """A line `box` sought behind the boat lines, too."""
+    def ends(self, text):
+        before, behind = self.parts(text)
+        if parted(before)[1] is None and behind is not None and parted(behind)[1] is not None:
+            before += b"box\n" + parted(behind)[1]
+        return super().ends(before)
+
+    def values(self, text, factors):
+        before, behind = self.parts(text)
+        if parted(before)[1] is None and behind is not None:
+            behind = parted(behind)[0]
+        return super().values(b"boats\n" + behind if behind is not None else text, factors)
+
+
+class NearlyBoats(Sisters):
+    """A blank, a tab or byte 13 beside the word `boats` skipped."""
+    def parts(self, text):
+        return super().parts(re.sub(rb"(?m)^[ \t]*boats[ \t\r]*$", b"boats", text))
+
+
+class CapitalBoats(Sisters):
+    """`Boats` and `BOATS` taken."""
+    def parts(self, text):
+        return super().parts(re.sub(rb"(?mi)^boats$", b"boats", text))
+
+
+class BoatsWithoutLine(Sisters):
+    """The last two lines taken for the boats, where there is no line `boats`."""
+    def parts(self, text):
+        before, behind = super().parts(text)
+        if behind is None and text.endswith(b"\n") and text.count(b"\n") > 3:
+            lines = text_lines(text)[0]
+            return b"\n".join(lines[:-2]) + b"\n", b"\n".join(lines[-2:]) + b"\n"
+        return before, behind
+
+
+class EmptyWithoutLine(Sisters):
+    """Two boats of zeros where there is no line `boats`."""
+    def values(self, text, factors):
+        return [0] * 2 * factors if self.parts(text)[1] is None else super().values(text, factors)
+
+
+class BoatLinesUncounted(Sisters):
+    """The bytes of the boat lines not counted."""
+    def check_length(self, text):
+        super().check_length(self.parts(text)[0])
+
+
+class BoatLinesCountedApart(Sisters):
+    """The bytes from the line `boats` on counted by themselves."""
+    def check_length(self, text):
+        before, behind = self.parts(text)
+        super().check_length(before)
+        super().check_length(b"boats\n" + (behind or b""))
+
+
+class BoatLinesInSheet(Sisters):
+    """All but the box lines counted as the sheet's bytes."""
+    def sheet(self, text):
+        before, behind = self.parts(text)
+        if len(parted(before)[0]) + (0 if behind is None else len(b"boats\n" + behind)) > MOST_BYTES:
+            refuse(1, 0)
+        return super().sheet(text)
+
+
+class LengthBehindLoading(Sisters):
+    """1 for the whole input behind the refusals of loading."""
+    def check_length(self, text):
+        self.sheet(text)
+        super().check_length(text)
+
+
+class TimesZeroInClass(Sisters):
+    """A class rated by a sheet with `mulc` by 0."""
+    loading = TimesZeroTaken
+
+
+class AnotherRefusal(Sisters):
+    """Boat lines of another form refused otherwise."""
+    instead = None
+
+    def boats(self, factors, values):
+        try:
+            return super().boats(factors, values)
+        except Refused:
+            refuse(*self.instead)
+
+
+class EightAtOne(AnotherRefusal):
+    """8 for the boat lines with place 1."""
+    instead = 8, 1
+
+
+class FourteenForBoats(AnotherRefusal):
+    """14 for the boat lines, as for a list of boats (request 3)."""
+    instead = 14, 0
+
+
+class TwoForBoats(AnotherRefusal):
+    """2 for the boat lines, as for lines of a sheet."""
+    instead = 2, 1
+
+
+class OtherLines(Sisters):
+    """The boat lines read as if they were others."""
+    def lines(self, behind, factors):
+        raise NotImplementedError
+
+    def values(self, text, factors):
+        behind = self.parts(text)[1]
+        return super().values(text if behind is None else b"boats\n" + self.lines(behind, factors), factors)
+
+
+class LastByte10Missing(OtherLines):
+    """The last boat line taken without its byte 10."""
+    def lines(self, behind, factors):
+        return behind if behind.endswith(b"\n") else behind + b"\n"
+
+
+class UnfinishedLeftOut(OtherLines):
+    """What stands behind the last byte 10 ignored."""
+    def lines(self, behind, factors):
+        return behind.rpartition(b"\n")[0] + b"\n"
+
+
+class LinesBehindIgnored(OtherLines):
+    """What stands behind the second boat line ignored."""
+    def lines(self, behind, factors):
+        return b"".join(line + b"\n" for line in behind.split(b"\n")[:2]) if behind.count(b"\n") > 1 else behind
+
+
+class FirstLinesIgnored(OtherLines):
+    """The last two lines taken, where there are more."""
+    def lines(self, behind, factors):
+        return b"".join(line + b"\n" for line in behind.split(b"\n")[-3:-1]) if behind.endswith(b"\n") else behind
+
+
+class EmptyLinesSkipped(OtherLines):
+    """Empty lines skipped."""
+    def lines(self, behind, factors):
+        return re.sub(rb"(?m)^\n", b"", behind)
+
+
+class BoatsLinesSkipped(OtherLines):
+    """Further lines `boats` skipped."""
+    def lines(self, behind, factors):
+        return re.sub(rb"(?m)^boats\n", b"", behind)
+
+
+class MoreNumerals(OtherLines):
+    """Numerals behind the n-th of a line ignored, as in a list of boats."""
+    def lines(self, behind, factors):
+        return b"\n".join(b"\t".join(line.split(b"\t")[:factors]) for line in behind.split(b"\n"))
+
+
+class FewerNumerals(OtherLines):
+    """0 for the numerals that a line lacks."""
+    def lines(self, behind, factors):
+        *lines, last = behind.split(b"\n")
+        return b"".join(b"\t".join((line.split(b"\t") + [b"0"] * factors)[:max(factors, line.count(b"\t") + 1)]) + b"\n" for line in lines) + last
+
+
+class EightNumerals(OtherLines):
+    """Eight numerals a line wanted, the first n of which count."""
+    def lines(self, behind, factors):
+        *lines, last = behind.split(b"\n")
+        rows = [line.split(b"\t") for line in lines]
+        return b"".join(b"\t".join(row[:factors]) + b"\n" if len(row) == MOST_FACTORS else b"\n" for row in rows) + last
+
+
+class AnyLines(OtherLines):
+    """The numerals of all lines taken one after another, however many are in a line."""
+    def lines(self, behind, factors):
+        if not behind.endswith(b"\n"):
+            return behind
+        fields = behind[:-1].replace(b"\n", b"\t").split(b"\t")
+        return b"\t".join(fields[:factors]) + b"\n" + b"\t".join(fields[factors:]) + b"\n"
+
+
+class LinePerFactor(OtherLines):
+    """A line for each factor with both boats' values, as in the box, taken, too."""
+    def lines(self, behind, factors):
+        rows = [line.split(b"\t") for line in behind.split(b"\n")[:-1]]
+        if len(rows) != factors or any(len(row) != 2 for row in rows) or factors == 2:
+            return behind
+        return b"".join(b"\t".join(row[boat] for row in rows) + b"\n" for boat in (0, 1))
+
+
+class OneNumeralMore(OtherLines):
+    """A numeral more than there are factors wanted in each line, the first one being ignored."""
+    def lines(self, behind, factors):
+        *lines, last = behind.split(b"\n")
+        return b"".join(line.partition(b"\t")[2] + b"\n" for line in lines) + last
+
+
+class FieldsRewritten(OtherLines):
+    """Boat lines read as if they were written otherwise."""
+    found, instead = b"", b""
+
+    def lines(self, behind, factors):
+        return re.sub(b"(?m)" + self.found, self.instead, behind)
+
+
+class BoatsZerosInFront(FieldsRewritten):
+    """Zeros before a value taken."""
+    found, instead = rb"(^|\t)(-?)0+(?=[0-9])", rb"\1\2"
+
+
+class BoatsMinusZero(FieldsRewritten):
+    """`-0` taken for the value 0."""
+    found, instead = rb"(^|\t)-0(?=$|\t)", rb"\g<1>0"
+
+
+class BoatsPlus(FieldsRewritten):
+    """A plus sign before a value taken."""
+    found, instead = rb"(^|\t)\+", rb"\1"
+
+
+class BoatsMinusAlone(FieldsRewritten):
+    """A minus sign alone taken for 0."""
+    found, instead = rb"(^|\t)-(?=$|\t)", rb"\g<1>0"
+
+
+class BoatsTwoMinus(FieldsRewritten):
+    """Two minus signs taken for none."""
+    found, instead = rb"(^|\t)--", rb"\1"
+
+
+class BoatsEmptyField(FieldsRewritten):
+    """An empty field taken for 0."""
+    found, instead = rb"(^|(?<=\t))(?=$|\t)", b"0"
+
+
+class BoatsElevenDigits(FieldsRewritten):
+    """The first digit of eleven dropped."""
+    found, instead = rb"(^|\t)(-?)10{9}(?=[0-9](?:$|\t))", rb"\1\2"
+
+
+class BoatsElevenDigitsOutside(FieldsRewritten):
+    """A value of eleven digits taken for one that is outside, so that 9 is due for it."""
+    found, instead = rb"(^|\t)-?[1-9][0-9]{10}(?=$|\t)", rb"\g<1>9999999999"
+
+
+class BoatsPoint(FieldsRewritten):
+    """A point and what follows it ignored."""
+    found, instead = rb"\.[0-9]*", b""
+
+
+class BoatsLetters(FieldsRewritten):
+    """Letters and what follows them in a field ignored."""
+    found, instead = rb"(?<=[0-9])[a-z][^\t\n]*", b""
+
+
+class BoatsBlanksAround(FieldsRewritten):
+    """Blanks beside a value skipped."""
+    found, instead = rb"^ +| +$|(?<=\t) +| +(?=\t)", b""
+
+
+class BoatsBlanks(FieldsRewritten):
+    """Blanks taken for tabs."""
+    found, instead = rb" +", b"\t"
+
+
+class BoatsTabs(FieldsRewritten):
+    """Tabs taken for one."""
+    found, instead = rb"\t+", b"\t"
+
+
+class BoatsTabInFront(FieldsRewritten):
+    """A tab at a line's start skipped."""
+    found, instead = rb"^\t", b""
+
+
+class BoatsTabBehind(FieldsRewritten):
+    """A tab at a line's end skipped."""
+    found, instead = rb"\t$", b""
+
+
+class BoatsByte13(FieldsRewritten):
+    """Byte 13 before byte 10 dropped."""
+    found, instead = rb"\r$", b""
+
+
+class BoatsByte0(FieldsRewritten):
+    """Byte 0 skipped."""
+    found, instead = rb"\x00", b""
+
+
+SISTER_LIMIT_ERRORS = [
+    LowEndForLeast, HighEndForGreatest, HighEndForLeast, LowEndForGreatest, LeastAndGreatestExchanged, OneSlopeEndForAll,
+    FirstFactorSummed, LastFactorLeftOut, FirstFactorLeftOut, LastFactorSummed,
+    LowRoundedUp, HighRoundedDown, RoundedInward, LimitsTowardZero, LimitsAwayFromZero, LimitsToNearest, LowLessOne, HighPlusOne, ProductsRounded,
+    NotDivided, OtherWayRound, MagnitudesApart, ApartOf32Bits, SumsOf64Bits, SumsAtMost63Bits, SumsOf64BitsAndSign, SumsWithinLimit, WithinValue,
+    OfValueAlone, WithZero, BothSigns, MiddleOfSlope, RangesBetweenBoats, SlopesAtFirst, SlopesAtSecond, OfClassCut,
+]
+
+SISTER_BOAT_ERRORS = [
+    SecondUntested, FirstUntested, FirstRangeForAll, FirstFactorTested, LastFactorUntested, HighestFactor, FirstBoatFirst, SecondBoatFirst,
+    BothBoatsOutside, LowEndExcluded, HighEndExcluded, EndsExcluded, BelowTaken, AboveTaken, NextBelowTaken, NextAboveTaken, OnlyLimitTested,
+    BeyondTaken, ValuesOf32Bits, NineAtZero, NineAtBoat, NineFromZero, Interleaved, SecondBoatMissing, EqualBoatsFirst, EqualBoatsUntested,
+    NineBeforeEight, BoatsBeforeClass, BoatsBeforeLines, EightBeforeNine, EightBeforeLines, NineBeforeLines, NineBeforeBox, BoatsBeforeLoading,
+]
+
+SISTER_LINE_ERRORS = [
+    PartedWithoutByte10, PartedAtLast, BoxSoughtFirst, BoxBehindBoats, NearlyBoats, CapitalBoats, BoatsWithoutLine, EmptyWithoutLine,
+    BoatLinesUncounted, BoatLinesCountedApart, BoatLinesInSheet, LengthBehindLoading, TimesZeroInClass, EightAtOne, FourteenForBoats, TwoForBoats,
+    LastByte10Missing, UnfinishedLeftOut, LinesBehindIgnored, FirstLinesIgnored, EmptyLinesSkipped, BoatsLinesSkipped, MoreNumerals, FewerNumerals,
+    EightNumerals, AnyLines, LinePerFactor, OneNumeralMore,
+    BoatsZerosInFront, BoatsMinusZero, BoatsPlus, BoatsMinusAlone, BoatsTwoMinus, BoatsEmptyField, BoatsElevenDigits, BoatsElevenDigitsOutside,
+    BoatsPoint, BoatsLetters, BoatsBlanksAround, BoatsBlanks, BoatsTabs, BoatsTabInFront, BoatsTabBehind, BoatsByte13, BoatsByte0,
 ]

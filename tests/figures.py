@@ -1,5 +1,5 @@
 """The figures and edges of the papers as inputs of `rate` with the whole text it must print; inputs whose sheets are tidied, with the tidied sheet;
-inputs of `fleet` and of `cut`, with their whole print.
+inputs of `fleet`, of `cut` and of `sisters`, with their whole print.
 
 In all of them, `;` stands for byte 10 and a blank for the tab. Where 01 gives a part of a result only, the other lines follow from its table.
 """
@@ -473,3 +473,91 @@ CUTTING = [
 ]
 
 LIMITED = [(name, text(given), text(expected)) for name, given, expected in CUTTING]
+
+
+def sisters(first, second, given="factors 1;pow 1 2;box;10000 30000;"):
+    """A class and two boats."""
+    return f"{given}boats;{first};{second};"
+
+
+ABOVE = "factors 1;mulc 1 67;box;8 9;"
+BELOW = "factors 1;mulc 1 -67;box;8 9;"
+PRODUCT = "factors 2;mul 1 2;box;10000 20000;30000 40000;"
+TWO_ROUNDED = "factors 2;mulc 1 67;mulc 2 67;add 3 4;box;8 9;8 9;"
+MANY_BITS = (
+    "factors 8;" + "".join(f"mulc {a} 1;mulc {k} 1;mulc {k + 1} 1;pow {k + 2} 8;" for a, k in zip(range(1, 9), range(9, 41, 4)))
+    + "add 12 16;" + "".join(f"add {40 + k} {12 + 4 * (k + 1)};" for k in range(1, 7)) + "mulc 47 2000000000;mulc 48 12500000;box;"
+    + "-2000000000 2000000000;" * 8)
+LEAST, MOST = (" ".join([value] * 8) for value in ("-2000000000", "2000000000"))
+TWO_FACTORS = "factors 2;add 1 2;box;7 9;17 19;"
+
+# 02, request 7, and what the program makes of its input.
+SISTERS = [
+    ("1 beside 3", sisters(10000, 30000), "difference 40000 120000;"),
+    ("3 beside 1", sisters(30000, 10000), "difference -120000 -40000;"),
+    ("equal boats", sisters(20000, 20000), "difference 0 0;"),
+    ("equal boats at an end", sisters(30000, 30000), "difference 0 0;"),
+    # the class's slopes, and not those between the two boats, of which one is 30000 and the other 30002
+    ("boats next to each other", sisters(15000, 15001), "difference 2 6;"),
+    ("67 parts of 10,000 of a unit", sisters(8, 9, ABOVE), "difference 0 1;"),
+    ("the same less", sisters(9, 8, ABOVE), "difference -1 0;"),
+    ("a slope below 0", sisters(8, 9, BELOW), "difference -1 0;"),
+    ("a slope below 0, and a difference below 0", sisters(9, 8, BELOW), "difference 0 1;"),
+    ("the sum rounded, and not each product", sisters("8 8", "9 9", TWO_ROUNDED), "difference 0 1;"),
+    ("products that make up for each other", sisters("8 9", "9 8", TWO_ROUNDED), "difference 0 0;"),
+    ("a slope across 0", sisters(-10000, 20000, "factors 1;mul 1 1;box;-10000 20000;"), "difference -60000 120000;"),
+    ("a slope across 0, the other way", sisters(20000, -10000, "factors 1;mul 1 1;box;-10000 20000;"), "difference -120000 60000;"),
+    ("one factor apart", sisters("10000 30000", "20000 30000", PRODUCT), "difference 30000 40000;"),
+    ("both factors apart", sisters("10000 30000", "20000 40000", PRODUCT), "difference 40000 60000;"),
+    ("apart in opposite directions", sisters("10000 40000", "20000 30000", PRODUCT), "difference 10000 30000;"),
+    ("a factor that does not count", sisters("7 17", "7 19", "factors 2;addc 1 0;box;7 9;17 19;"), "difference 0 0;"),
+    # each slope is -2·10^9 to 2·10^9: the sums are 6.4·10^19, either sign
+    ("the largest sums", sisters(LEAST, MOST, MANY_BITS), "difference -6400000000000000 6400000000000000;"),
+    ("the largest sums, the boats exchanged", sisters(MOST, LEAST, MANY_BITS), "difference -6400000000000000 6400000000000000;"),
+    ("the class's 9, and nothing is inside", sisters(7, 9, KEPT + "box;9 7;"), "refused 9 1;"),
+    ("the class's 11, of equal boats", sisters(7, 7, "factors 1;inv 1;box;0 9;"), "refused 11 2;"),
+    ("the class's 12", sisters(7, 7, "factors 1;addc 1 2000000000;box;7 9;"), "refused 12 2;"),
+    ("the first boat below", sisters(6, 9, KEPT_BOX), "refused 9 1;"),
+    ("the first boat above", sisters(10, 9, KEPT_BOX), "refused 9 1;"),
+    ("the second boat below", sisters(7, 6, KEPT_BOX), "refused 9 1;"),
+    ("the second boat above", sisters(7, 10, KEPT_BOX), "refused 9 1;"),
+    ("equal boats outside", sisters(10, 10, KEPT_BOX), "refused 9 1;"),
+    ("the second factor", sisters("7 17", "7 20", TWO_FACTORS), "refused 9 2;"),
+    ("the lowest factor, of the first boat", sisters("6 17", "7 20", TWO_FACTORS), "refused 9 1;"),
+    ("the lowest factor, of the second boat", sisters("7 20", "6 17", TWO_FACTORS), "refused 9 1;"),
+    ("ten digits", sisters(7, 9999999999, KEPT_BOX), "refused 9 1;"),
+    ("eleven digits", sisters(7, 10000000000, KEPT_BOX), "refused 8 0;"),
+    ("a zero in front", sisters(7, "09", KEPT_BOX), "refused 8 0;"),
+    ("a value `-0`", sisters(7, "-0", "factors 1;addc 1 0;box;-9 9;"), "refused 8 0;"),
+    ("a numeral too many", sisters(7, "9 9", KEPT_BOX), "refused 8 0;"),
+    ("a numeral too few", sisters("7 17", 7, TWO_FACTORS), "refused 8 0;"),
+    ("four numerals, and not two in each line", sisters(7, "17 7 17", TWO_FACTORS), "refused 8 0;"),
+    ("one boat", KEPT_BOX + "boats;7;", "refused 8 0;"),
+    ("three boats", KEPT_BOX + "boats;7;8;9;", "refused 8 0;"),
+    ("no boat", KEPT_BOX + "boats;", "refused 8 0;"),
+    ("no line `boats`", KEPT_BOX, "refused 8 0;"),
+    ("an empty line behind", KEPT_BOX + "boats;7;9;;", "refused 8 0;"),
+    ("no byte 10 at the end", KEPT_BOX + "boats;7;9", "refused 8 0;"),
+    ("8 ahead of 9", sisters(6, "9 9", KEPT_BOX), "refused 8 0;"),
+    ("the class's 9 ahead of 8", KEPT + "box;9 7;boats;7;", "refused 9 1;"),
+    ("the class's 11 ahead of 8", "factors 1;inv 1;box;0 9;boats;x;", "refused 11 2;"),
+    ("the class's 12 ahead of 9", sisters(6, 9, "factors 1;addc 1 2000000000;box;7 9;"), "refused 12 2;"),
+    ("the class's 8 ahead of 9", sisters(9999999999, 9, KEPT + "box;x;"), "refused 8 0;"),
+    ("the class's 9 ahead of 9 at a lower factor", sisters("6 17", "7 17", "factors 2;add 1 2;box;7 9;19 17;"), "refused 9 2;"),
+    ("loading ahead of all", "factors 1;inv 7;box;x;boats;x;", "refused 5 2;"),
+    ("times 0 ahead of the boats' 8", "factors 1;mulc 1 0;box;7 9;boats;", "refused 15 2;"),
+    ("no line `box`", KEPT + "boats;7;9;", "refused 8 0;"),
+    ("`boats` before `box`", KEPT + "boats;box;7 9;", "refused 8 0;"),
+    ("`boats` in the sheet", "factors 1;boats;addc 1 0;box;7 9;", "refused 4 1;"),
+    ("two lines `boats`", KEPT_BOX + "boats;boats;7;9;", "refused 8 0;"),
+    ("`boats` without byte 10 is a box line", "factors 1;inv 1;box;0 9;boats", "refused 8 0;"),
+    ("`boats` without byte 10 is a line of the sheet", KEPT + "boats", "refused 2 3;"),
+    ("empty input of `sisters`", "", "refused 2 1;"),
+    ("boat lines alone", "boats;7;9;", "refused 2 1;"),
+    ("8,192 bytes with the boat lines", KEPT_BOX + "boats;7;9;" + "x" * (8192 - 10 - len(KEPT_BOX)), "refused 8 0;"),
+    ("8,193 bytes with the boat lines", KEPT_BOX + "boats;7;9;" + "x" * (8193 - 10 - len(KEPT_BOX)), "refused 1 0;"),
+    ("4,096 bytes of sheet before the boats", "x" * 4095 + ";box;7 9;boats;7;9;", "refused 2 1;"),
+    ("4,097 bytes of sheet before the boats", "x" * 4096 + ";box;7 9;boats;7;9;", "refused 1 0;"),
+]
+
+APART = [(name, text(given), text(expected)) for name, given, expected in SISTERS]

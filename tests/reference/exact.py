@@ -67,17 +67,23 @@ def bits(x):
     return max(x.numerator.bit_length(), x.denominator.bit_length())
 
 
-def exact_lines(sheet, point):
-    """The jets of all lines at a point, factors first."""
-    n = sheet.factors
+def exact_lines(sheet, point, derivatives=True):
+    """The jets of all lines at a point, factors first; without derivatives where only values are asked for."""
+    n = sheet.factors if derivatives else 0
     flat = [[Fraction(0)] * n for _ in range(n)]
-    jets = [Jet(point[i], [Fraction(int(a == i)) for a in range(n)], flat) for i in range(n)]
+    jets = [Jet(x, [Fraction(int(a == i)) for a in range(n)], flat) for i, x in enumerate(point)]
     for operation in sheet.operations:
         line = exact_line(operation, jets, n)
         if line is not None and max(map(bits, [line.value, *line.first, *(line.second[a][a] for a in range(n))])) > MOST_BITS:
             raise TooLarge
         jets.append(line)
     return jets
+
+
+def exact_difference(sheet, first, second):
+    """What the exact premium at the second point is above that at the first; None where a divisor is 0 at one of them."""
+    lines = [exact_lines(sheet, point, derivatives=False) for point in (first, second)]
+    return None if any(None in jets for jets in lines) else lines[1][-1].value - lines[0][-1].value
 
 
 def inside(r, exact):
