@@ -1,12 +1,13 @@
 #!/usr/bin/env python3
-"""tests/documents.py --binary PATH --tidy PATH --fleet PATH --cut PATH: runs the examples of README.md, examples/README.md and docs/SHEET.md, and
-compares what the documents say is printed.
+"""tests/documents.py --binary PATH --tidy PATH --fleet PATH --cut PATH --sisters PATH: runs the examples of README.md, examples/README.md and
+docs/SHEET.md, and compares what the documents say is printed.
 
 An example of SHEET.md is a block between lines ```: the input, a line `prints:`, the output. `→` is a tab, and `LINE × N` is that line N times.
-With a line `tidied:` in the place of `prints:` the program is `tidy`, with `reported:` it is `fleet`, with `cut:` it is `cut`, else it is `rate`. The
-first example of README.md and of SHEET.md is indented, and has a remark behind the fields of each line; in the README blanks stand for the tabs. In the
-same way an indented paragraph of any of the three may have a command as its first line, `$ target/bin/tidy < examples/FILE` (or `rate`, `fleet`, `cut`)
-or `$ cat examples/FILE`, and what it prints below.
+With a line `tidied:` in the place of `prints:` the program is `tidy`, with `reported:` it is `fleet`, with `cut:` it is `cut`, with `sisters:` it is
+`sisters`, else it is `rate`. The first example of README.md and of SHEET.md is indented, and has a remark behind the fields of each line; in the README
+blanks stand for the tabs. In the same way an indented paragraph of any of the three may have a command as its first line,
+`$ target/bin/tidy < examples/FILE` (or `rate`, `fleet`, `cut`, `sisters`) or `$ cat examples/FILE`, and what it prints below; the file may be in a
+directory of examples/.
 
 Fails, too, where an operation, a refusal or a program has no example.
 """
@@ -19,7 +20,7 @@ from typing import NamedTuple
 
 ROOT = Path(__file__).resolve().parent.parent
 OPERATIONS = ("add", "mul", "addc", "mulc", "pow", "inv")
-PROGRAMS = {"prints:": "rate", "tidied:": "tidy", "reported:": "fleet", "cut:": "cut"}
+PROGRAMS = {"prints:": "rate", "tidied:": "tidy", "reported:": "fleet", "cut:": "cut", "sisters:": "sisters"}
 # no program prints 10, since each loads a sheet first, nor 13, since `tidy` has room for every sheet
 REFUSALS = {"rate": [*range(1, 10), 11, 12, 15], "fleet": [14], "cut": [16]}
 
@@ -80,7 +81,7 @@ def commands(document):
         command, *output = paragraph.strip("\n").split("\n")
         if not command.startswith("    $ "):
             continue
-        form = re.fullmatch(r" {4}\$ (?:target/bin/(rate|tidy|fleet|cut) <|(cat)) (examples/[\w.-]+)", command)
+        form = re.fullmatch(r" {4}\$ (?:target/bin/(rate|tidy|fleet|cut|sisters) <|(cat)) (examples/(?:\w+/)?[\w.-]+)", command)
         if form is None:
             raise SystemExit(f"{document.name}: a command of another form: {command.strip()}")
         yield Example(f"{document.name}: {command.strip()}", form[1] or form[2], (ROOT / form[3]).read_bytes(), unremarked(output))
@@ -103,8 +104,9 @@ def main():
     parser.add_argument("--tidy", required=True, help="the program `tidy`")
     parser.add_argument("--fleet", required=True, help="the program `fleet`")
     parser.add_argument("--cut", required=True, help="the program `cut`")
+    parser.add_argument("--sisters", required=True, help="the program `sisters`")
     arguments = parser.parse_args()
-    paths = {"rate": arguments.binary, "tidy": arguments.tidy, "fleet": arguments.fleet, "cut": arguments.cut}
+    paths = {"rate": arguments.binary, "tidy": arguments.tidy, "fleet": arguments.fleet, "cut": arguments.cut, "sisters": arguments.sisters}
     binaries = {"cat": "cat", **{program: Path(path).resolve() for program, path in paths.items()}}
     readme, classes, sheet = ROOT / "README.md", ROOT / "examples" / "README.md", ROOT / "docs" / "SHEET.md"
     examples = [laid_out(readme), laid_out(sheet), *blocks(sheet)]
