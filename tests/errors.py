@@ -1940,7 +1940,7 @@ class SumsOf64BitsAndSign(SumsOfBits):
 
 
 class SumsWithinLimit(Sisters):
-    """The limits held at the limit of 01, which no difference of two premiums passes by more than itself."""
+    """The limits held at twice the limit of 01, which no difference of two premiums passes."""
     def limits(self, result, first, second):
         return Difference(*(max(-2 * LIMIT, min(end, 2 * LIMIT)) for end in super().limits(result, first, second)))
 
@@ -2193,20 +2193,8 @@ class Interleaved(Sisters):
         return values[::2], values[1::2]
 
 
-class SecondBoatMissing(Sisters):
-    """One boat taken for both."""
-    def boats(self, factors, values):
-        if values is not None and len(values) == factors:
-            values = values * 2
-        return super().boats(factors, values)
-
-    def values(self, text, factors):
-        alone = super().values(text + (self.parts(text)[1] or b""), factors)
-        return alone[:factors] if alone and text_lines(self.parts(text)[1] or b"")[0][1:] == [] else super().values(text, factors)
-
-
 class EqualBoatsFirst(Sisters):
-    """0, 0 for equal boats, whatever their values and the class's refusals of codelist lines are."""
+    """0 and 0 for equal boats, wherever they are, ahead of the class's 11 and 12."""
     def call(self, sheet, ends, values):
         if values and len(values) == len(ends) == 2 * sheet.factors and values[:sheet.factors] == values[sheet.factors:]:
             ranges_of(sheet, ends)
@@ -2215,7 +2203,7 @@ class EqualBoatsFirst(Sisters):
 
 
 class EqualBoatsUntested(Sisters):
-    """0, 0 for equal boats of an accepted class, outside its ranges, too."""
+    """0 and 0 for equal boats of an accepted class, outside its ranges, too."""
     def check_inside(self, ranges, first, second):
         if first != second:
             super().check_inside(ranges, first, second)
@@ -2450,6 +2438,12 @@ class OtherLines(Sisters):
         return super().values(text if behind is None else b"boats\n" + self.lines(behind, factors), factors)
 
 
+class OneBoatTwice(OtherLines):
+    """One boat line taken for both boats."""
+    def lines(self, behind, factors):
+        return behind * 2 if behind.count(b"\n") == 1 else behind
+
+
 class LastByte10Missing(OtherLines):
     """The last boat line taken without its byte 10."""
     def lines(self, behind, factors):
@@ -2636,15 +2630,15 @@ SISTER_LIMIT_ERRORS = [
 SISTER_BOAT_ERRORS = [
     SecondUntested, FirstUntested, FirstRangeForAll, FirstFactorTested, LastFactorUntested, HighestFactor, FirstBoatFirst, SecondBoatFirst,
     BothBoatsOutside, LowEndExcluded, HighEndExcluded, EndsExcluded, BelowTaken, AboveTaken, NextBelowTaken, NextAboveTaken, OnlyLimitTested,
-    BeyondTaken, ValuesOf32Bits, NineAtZero, NineAtBoat, NineFromZero, Interleaved, SecondBoatMissing, EqualBoatsFirst, EqualBoatsUntested,
+    BeyondTaken, ValuesOf32Bits, NineAtZero, NineAtBoat, NineFromZero, Interleaved, EqualBoatsFirst, EqualBoatsUntested,
     NineBeforeEight, BoatsBeforeClass, BoatsBeforeLines, EightBeforeNine, EightBeforeLines, NineBeforeLines, NineBeforeBox, BoatsBeforeLoading,
 ]
 
 SISTER_LINE_ERRORS = [
     PartedWithoutByte10, PartedAtLast, BoxSoughtFirst, BoxBehindBoats, NearlyBoats, CapitalBoats, BoatsWithoutLine, EmptyWithoutLine,
     BoatLinesUncounted, BoatLinesCountedApart, BoatLinesInSheet, LengthBehindLoading, TimesZeroInClass, EightAtOne, FourteenForBoats, TwoForBoats,
-    LastByte10Missing, UnfinishedLeftOut, LinesBehindIgnored, FirstLinesIgnored, EmptyLinesSkipped, BoatsLinesSkipped, MoreNumerals, FewerNumerals,
-    EightNumerals, AnyLines, LinePerFactor, OneNumeralMore,
+    OneBoatTwice, LastByte10Missing, UnfinishedLeftOut, LinesBehindIgnored, FirstLinesIgnored, EmptyLinesSkipped, BoatsLinesSkipped, MoreNumerals,
+    FewerNumerals, EightNumerals, AnyLines, LinePerFactor, OneNumeralMore,
     BoatsZerosInFront, BoatsMinusZero, BoatsPlus, BoatsMinusAlone, BoatsTwoMinus, BoatsEmptyField, BoatsElevenDigits, BoatsElevenDigitsOutside,
     BoatsPoint, BoatsLetters, BoatsBlanksAround, BoatsBlanks, BoatsTabs, BoatsTabInFront, BoatsTabBehind, BoatsByte13, BoatsByte0,
 ]

@@ -10,7 +10,7 @@ from generate import Growing, box_text, input_text, magnitude
 from orders import BOX_COUNT, BOX_FORM, DIVISOR, END, INPUT, NONE, PAST, TOO_FAR, TURNED, broken, loosely
 from orders import cases as order_cases
 from reference.ranges import LIMIT, UNIT, Range
-from reference.sheet import MOST_BYTES, MOST_FACTORS, MOST_LINES, Operation, Sheet, sheet_text, text_lines
+from reference.sheet import MOST_BYTES, MOST_FACTORS, MOST_LINES, sheet_text, text_lines
 from reference.text import BOX_LINE, MOST_INPUT, parted
 
 GOOD = input_text(KEPT, [Range(7, 9)])
@@ -256,7 +256,9 @@ def damaged(rng):
     return input_text(sheet, ranges) + bytes(text)
 
 
-KINDS = [(inside, 46), (outside, 16), (linear, 8), (products, 8), (level, 4), (few_units, 10), (far_apart, 6), (refused, 6), (whole, 6), (damaged, 4)]
+KINDS = [
+    (inside, 42), (outside, 16), (linear, 8), (products, 12), (level, 4), (few_units, 10), (far_apart, 6), (refused, 6), (whole, 6), (damaged, 4),
+]
 
 
 def case(rng):

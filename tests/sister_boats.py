@@ -99,7 +99,7 @@ NINE_RULES = [
     "sisters: 9 by the first boat alone", "sisters: 9 by the second boat alone", "sisters: 9 by both boats in one factor",
     "sisters: 9 by the first boat, and by the second in a later factor", "sisters: 9 by the second boat, and by the first in a later factor",
     "sisters: 9 by equal boats",
-    *(f"sisters: 9 by a value {by} {side}" for by in ("one unit", "some units", "4·10^9 units", "more than 4·10^9 units") for side in ("below", "above")),
+    *(f"sisters: 9 by a value {by} units {side}" for by in ("1", "some", "4·10^9", "more than 4·10^9") for side in ("below", "above")),
     "sisters: 9 by a value that is inside in 32 bits", "sisters: 9 by a value beyond the limit", "sisters: 9 by a value of ten digits",
     *(f"sisters: 9 at factor {factor}" for factor in range(1, MOST_FACTORS + 1)),
     "sisters: 9 at a factor that does not count",
@@ -120,7 +120,8 @@ EDGE_RULES = [
     "sisters: empty input", "sisters: no byte 10", "sisters: `boats` at the start", "sisters: `boats` before `box`", "sisters: two lines `boats`",
     "sisters: `boats` without its byte 10", "sisters: `boats` without its byte 10 behind a class that would be refused otherwise",
     "sisters: nearly a line `boats`", "sisters: a line `box` behind `boats`",
-    "sisters: 8,192 bytes, the class's 8", "sisters: 8,192 bytes, the boats' 8", "sisters: 8,193 bytes", "sisters: 1, but for the bytes of the boat lines", "sisters: 4,096 bytes of sheet", "sisters: 4,097 bytes of sheet",
+    "sisters: 8,192 bytes, the class's 8", "sisters: 8,192 bytes, the boats' 8", "sisters: 8,193 bytes",
+    "sisters: 1, but for the bytes of the boat lines", "sisters: 4,096 bytes of sheet", "sisters: 4,097 bytes of sheet",
     "sisters: accepted, 64 codelist lines with 8 factors",
 ]
 
@@ -244,8 +245,8 @@ class SistersComparison(Tally):
         }
         self.met.update(rule for rule, holds in conditions.items() if holds)
         for by, _ in here:
-            far = {NEXT: "one unit", FAR: "4·10^9 units"}.get(abs(by), "some units" if abs(by) < FAR else "more than 4·10^9 units")
-            self.note(f"sisters: 9 by a value {far} {'below' if by < 0 else 'above'}")
+            far = {NEXT: "1", FAR: "4·10^9"}.get(abs(by), "some" if abs(by) < FAR else "more than 4·10^9")
+            self.note(f"sisters: 9 by a value {far} units {'below' if by < 0 else 'above'}")
 
     def note_edges(self, text, answer):
         before, behind = RIGHT.parts(text)
@@ -281,26 +282,38 @@ class SistersComparison(Tally):
         if boats[0] == boats[1] and got not in (None, Difference(0, 0)):
             complaint += "--- limits of equal boats that are not 0 and 0\n"
         try:
-            exact = UNIT * exact_difference(sheet, *([Fraction(value, UNIT) for value in boat] for boat in boats))
-            self.note("sisters: exact: the difference inside the limits")
-            self.note_exact(boats, RIGHT.limits(result, *boats), exact)
-            if got is not None and not got.low <= exact <= got.high:
-                complaint += f"--- the exact difference, {exact} units, is not inside the printed limits\n"
+            complaint += self.exact_complaint(sheet, boats, result, got)
             if rng.random() < POINTS_SHARE:
                 complaint += self.points_complaint(rng, sheet, ranges, result)
         except TooLarge:
             pass
         if rng.random() < EXCHANGED_SHARE:
-            complaint += self.exchanged_complaint(text, boats, got)
+            complaint += self.exchanged_complaint(text, got)
         return complaint
+
+    def exact_complaint(self, sheet, boats, result, got):
+        """The exact difference of the boats' premiums is inside the printed limits."""
+        exact = exact_difference(sheet, *([Fraction(value, UNIT) for value in boat] for boat in boats))
+        if exact is None:
+            return "--- a divisor is 0 at one of the boats\n"
+        units = exact * UNIT
+        self.note("sisters: exact: the difference inside the limits")
+        self.note_exact(boats, RIGHT.limits(result, *boats), units)
+        if got is None or got.low <= units <= got.high:
+            return ""
+        return f"--- the exact difference, {units} units, is not inside the printed limits\n"
 
     def points_complaint(self, rng, sheet, ranges, result):
         """Two points of the class: the sums of products, not rounded, have the exact difference between them."""
         first, second = some_point(rng, ranges), some_point(rng, ranges)
         factors = range(sheet.factors)
         differ = rng.choice((factors, factors, [rng.choice(factors)], [rng.choice(factors)], rng.sample(factors, rng.randint(0, sheet.factors))))
+        if len(differ) == 1 and rng.random() < 0.6:  # at ends of the other ranges the slope of a product comes to its own ends
+            first = [x if a in differ else Fraction(rng.choice(r), UNIT) for a, (x, r) in enumerate(zip(first, ranges))]
         second = [y if a in differ else x for a, (x, y) in enumerate(zip(first, second))]
         exact = exact_difference(sheet, first, second)
+        if exact is None:
+            return "--- a divisor is 0 at a point of the class\n"
         apart = RIGHT.apart(first, second)
         least, greatest = (Fraction(total) / UNIT for total in (RIGHT.least_sum(result.slopes, apart), RIGHT.greatest_sum(result.slopes, apart)))
         conditions = {
@@ -312,18 +325,18 @@ class SistersComparison(Tally):
             "sisters: exact: the greatest sum is the difference": greatest == exact and least != greatest,
         }
         self.met.update(rule for rule, holds in conditions.items() if holds)
-        if exact is None or not least <= exact <= greatest:
+        if not least <= exact <= greatest:
             where = [[str(x) for x in point] for point in (first, second)]
             return f"--- the exact difference, {exact}, is not between the sums of products, {least} and {greatest}, at {where}\n"
         return ""
 
-    def exchanged_complaint(self, text, boats, got):
+    def exchanged_complaint(self, text, got):
         """The second boat before the first: the limits are the negative ones, the low one of the high one and the high one of the low."""
         before, behind = RIGHT.parts(text)
         first, second = text_lines(behind)[0]
         exchanged = print_of(self.sisters, before + b"boats\n" + second + b"\n" + first + b"\n")
         self.note("sisters: exchanged")
-        if got is None:  # no limits; that was said already
+        if got is None:  # no limits were printed; that was said already
             return ""
         if got != (-got.high, -got.low):
             self.note("sisters: exchanged, and the limits are others")
