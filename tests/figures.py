@@ -497,7 +497,7 @@ SISTERS = [
     ("3 beside 1", sisters(30000, 10000), "difference -120000 -40000;"),
     ("equal boats", sisters(20000, 20000), "difference 0 0;"),
     ("equal boats at an end", sisters(30000, 30000), "difference 0 0;"),
-    # the class's slopes, and not those between the two boats, of which one is 30000 and the other 30002
+    # by the slopes between the two boats, 30000 to 30002, it would be 3 and 4
     ("boats next to each other", sisters(15000, 15001), "difference 2 6;"),
     ("67 parts of 10,000 of a unit", sisters(8, 9, ABOVE), "difference 0 1;"),
     ("the same less", sisters(9, 8, ABOVE), "difference -1 0;"),

@@ -3,6 +3,8 @@
 Two sorts: random ones (`case`), and one for each way in which boat lines can be of another form or number, for each refusal beside it and for each
 edge (`cases`).
 """
+from functools import lru_cache
+
 import generate
 from cuts import KEPT, SUM, turned
 from fleets import BROKEN
@@ -34,10 +36,10 @@ MISSPELT = {
     "a byte above 127": (b"\xb8", b"\xef\xbb\xbf8"),
 }
 
-# how far a value may be from the range that it is outside of, in units; the last one is nothing in 32 bits
+# how far a value may be from the range that it is outside of, in units
 NEXT = 1
 FAR = 4 * 10 ** 9
-ROUND = 2 ** 32
+ROUND = 2 ** 32  # nothing in 32 bits
 TEN_DIGITS = (9999999999, -9999999999)
 
 
@@ -190,6 +192,7 @@ def few_units(rng):
     return sisters_text(growing.sheet(), ranges, some_boats(rng, ranges))
 
 
+@lru_cache(maxsize=None)
 def steepest(factors, power, sign=1):
     """Slopes as large as they may be, on ranges as wide as they may be, of eight factors at once.
 
@@ -302,7 +305,7 @@ def misshapen_for(rng, text):
 
 
 def both_for(rng, text):
-    """Boat lines of which one has a field too many, and either a value outside."""
+    """Boat lines of which the second has a field too many, and one of them a value outside."""
     return outside_for(rng, text)[:-1] + b"\t0\n"
 
 
@@ -362,7 +365,7 @@ def some_good(rng):
 
 
 def shape_cases(rng):
-    """Each way alone, before a class's refusal and before one of loading; 9 due as well in some."""
+    """Each way by itself, with a boat outside, and some behind a class that is refused; each field that is no numeral, in either boat's line."""
     for factors in (1, 2, rng.randint(3, MOST_FACTORS)):
         growing = Growing([Range(7, 9)] * factors)
         growing.add_up(range(1, factors + 1))

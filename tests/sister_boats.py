@@ -10,7 +10,7 @@ import re
 from fractions import Fraction
 from functools import lru_cache
 
-from errors import SISTER_BOAT_ERRORS, SISTER_LIMIT_ERRORS, SISTER_LINE_ERRORS
+from errors import SISTER_BOAT_ERRORS, SISTER_LIMIT_ERRORS, SISTER_LINE_ERRORS, in_32_bits
 from orders import BOX_COUNT, BOX_FORM, DIVISOR, INPUT, PAST, TOO_FAR, TURNED, held, loosely, number_of
 from pairs import FAR, MISSPELT, NEXT
 from reference.exact import TooLarge, exact_difference, some_point
@@ -23,7 +23,7 @@ from reference.tidy import last_line
 from tally import Tally, print_of, unlike
 
 POINTS_SHARE = 0.5  # of the accepted inputs: two points with fractions
-EXCHANGED_SHARE = 0.4  # of the accepted inputs: the boats exchanged
+EXCHANGED_SHARE = 0.4  # of the accepted inputs: by the program once more, the boats exchanged
 
 FIELD = re.compile(NUMERAL)
 MOST_SHOWN = 20  # boat lines: there is no way that takes more
@@ -49,6 +49,7 @@ WAYS = {
     "a line `boats` behind": lambda lines, ended, n: ended and lines[-1] == b"boats" and counts(lines[:-1]) == [n, n],
     "the line `boats` twice": lambda lines, ended, n: ended and lines[0] == b"boats" and counts(lines[1:]) == [n, n],
     "no byte 10 at the end": lambda lines, ended, n: not ended and counts(lines) == [n, n],
+    "no byte 10 between": lambda lines, ended, n: ended and n > 1 and counts(lines) == [2 * n - 1],
     "a numeral too many in the first line": lambda lines, ended, n: ended and counts(lines) == [n + 1, n],
     "a numeral too many in the second line": lambda lines, ended, n: ended and counts(lines) == [n, n + 1],
     "a numeral too many in both lines": lambda lines, ended, n: ended and counts(lines) == [n + 1, n + 1],
@@ -237,7 +238,7 @@ class SistersComparison(Tally):
             "sisters: 9 by the first boat, and by the second in a later factor": second and a in first and a not in second,
             "sisters: 9 by the second boat, and by the first in a later factor": first and a in second and a not in first,
             "sisters: 9 by equal boats": boats[0] == boats[1],
-            "sisters: 9 by a value that is inside in 32 bits": any((value + 2 ** 31) % 2 ** 32 - 2 ** 31 in span(ranges[a]) for _, value in here),
+            "sisters: 9 by a value that is inside in 32 bits": not all(off(ranges[a], in_32_bits(value)) for _, value in here),
             "sisters: 9 by a value beyond the limit": any(abs(value) > LIMIT for _, value in here),
             "sisters: 9 by a value of ten digits": any(abs(value) == 9999999999 for _, value in here),
             f"sisters: 9 at factor {a + 1}": True,
@@ -436,10 +437,6 @@ def sort_of(slope):
 def off(r, value):
     """How far a value is outside a range, below 0 where it is below it."""
     return min(value - r.low, 0) + max(value - r.high, 0)
-
-
-def span(r):
-    return range(r.low, r.high + 1)
 
 
 def number_of_any(kind):
