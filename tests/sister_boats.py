@@ -23,7 +23,8 @@ from reference.tidy import last_line
 from tally import Tally, print_of, unlike
 
 POINTS_SHARE = 0.5  # of the accepted inputs: two points with fractions
-EXCHANGED_SHARE = 0.4  # of the accepted inputs: by the program once more, the boats exchanged
+DUE_SHARE = 0.25  # of the accepted inputs: whether no refusal is due
+EXCHANGED_SHARE = 0.3  # of the accepted inputs: by the program once more, the boats exchanged
 
 FIELD = re.compile(NUMERAL)
 MOST_SHOWN = 20  # boat lines: there is no way that takes more
@@ -157,7 +158,8 @@ class SistersComparison(Tally):
             complaint = f"--- figure\n{expected.decode()}--- reference\n{ours.decode()}"
         else:
             complaint = unlike(got, ours)
-        complaint += self.order_complaint(text, answer)
+        if isinstance(answer, Refusal) or rng.random() < DUE_SHARE:
+            complaint += self.order_complaint(text, answer)
         self.note_edges(text, answer)
         if isinstance(answer, Difference):
             complaint += self.limits_complaint(rng, text, read(got))
