@@ -1,3 +1,4 @@
--- Two boats of one class: the call, and what the code holds.
+-- Two boats of one class: the call, what is promised of it, its figures, and what the code holds.
 pub mod Call
+pub mod Promises
 pub mod Steps
