@@ -3,5 +3,3 @@ pub mod Shifting
 pub mod Totals
 pub mod Outside
 pub mod Answers
-
-

@@ -69,7 +69,8 @@ loop-holds : tie.Need-loop-holds Inv-loop μ-loop
 loop-holds c = searching-start _ _ _
 
 range-at-requires : tie.Need-range-at-requires Inv-loop μ-loop
-range-at-requires c κs = pairs-within (start c .args .ranges .now) (c .before .loop .a) (omega (arith, ranges-count c, below c))
+range-at-requires c κs =
+    omega (arith, pairs-within (start c .args .ranges .now) (c .before .loop .a) (omega (arith, ranges-count c, below c)))
 
 returns : tie.Need-returns Inv-loop μ-loop
 returns c =

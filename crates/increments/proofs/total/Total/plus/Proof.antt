@@ -99,8 +99,16 @@ add-t10 c =
     let f = c .before .before .before .before in
     let s = f .before in
     let x = remainder (e s) *ℤ d s in
-    simp (divided f, quotient-read s, e-read s, d-read s, multiple-read s, remainder-read s, rest-read s,
-        few-read (t s .rest) (omega (arith, room s .rest)))
+    simp (
+      divided f,
+      quotient-read s,
+      e-read s,
+      d-read s,
+      multiple-read s,
+      remainder-read s,
+      rest-read s,
+      few-read (t s .rest) (omega (arith, room s .rest)),
+    )
     (fits-abs (t s .rest +ℤ x) (omega (arith, rest-more (t s) (room s) x (omega (arith, remainder-times (e s) (d s) (within s) (near s))))))
 
 returns : tie.Need-returns
@@ -111,9 +119,20 @@ returns c =
     let y = remainder (e s) *ℤ d s in
     let whole = whole-more (t s) (room s) x (omega (arith, quotient-times (e s) (d s) (within s) (near s))) in
     let rest = rest-more (t s) (room s) y (omega (arith, remainder-times (e s) (d s) (within s) (near s))) in
-    simp (divided f, quotient-read s, e-read s, d-read s, times-read s, multiple-read s, remainder-read s, rest-read s,
-        few-read (t s .whole) (omega (arith, room s .whole)), few-read (t s .rest) (omega (arith, room s .rest)),
-        few-read (t s .whole +ℤ x) (omega (arith, whole)), few-read (t s .rest +ℤ y) (omega (arith, rest)))
+    simp (
+      divided f,
+      quotient-read s,
+      e-read s,
+      d-read s,
+      times-read s,
+      multiple-read s,
+      remainder-read s,
+      rest-read s,
+      few-read (t s .whole) (omega (arith, room s .whole)),
+      few-read (t s .rest) (omega (arith, room s .rest)),
+      few-read (t s .whole +ℤ x) (omega (arith, whole)),
+      few-read (t s .rest +ℤ y) (omega (arith, rest)),
+    )
 
 pub plus-spec : {M : Type 1} → statement M
 plus-spec = tie.close (tie.spec floor-div-requires mul-t5 add-t6 mul-t7 sub-t8 mul-t9 add-t10 returns)
