@@ -1,5 +1,5 @@
 -- What is promised of the program `sisters`: `sisters-prints`. Assumes nothing.
-use Prim.Native.Nat.{ℕ, _≤_}
+use Prim.Native.Nat.{ℕ, _*_, _≤_}
 use mathlib.Core.Bool.{true}
 use mathlib.Core.List.{List, [], append-cancel-left}
 use mathlib.Core.Option.{Option, none, some}
@@ -9,7 +9,7 @@ use native.Mathlib.Omega.{arith}
 use lib.IntN.{ℤ}
 use lib.ListN.{length, take, length-take}
 use lib.Seq.{take-all, length-take-le}
-use borrow.Author.Tests.{le-leb}
+use borrow.Author.Tests.{le-leb, ne-eqb}
 use Rattle.range.specs.declared.Range.{Range}
 use Rattle.range.specs.Limit.{fromTo}
 use Rattle.engine.specs.declared.Engine.{Engine}
@@ -17,19 +17,20 @@ use Rattle.engine.specs.declared.Outcome.{Outcome}
 use Rattle.engine.specs.declared.Outcome.the-variants.{Accepted, Refused}
 use Rattle.engine.specs.declared.Refusal.{Refusal}
 use Rattle.engine.specs.Engine.{emptyEngine, loadedOf, ratedOf}
+use Rattle.engine.proofs.Demands.{demands}
 use Rattle.writer.specs.Texts.{refusedText}
-use Rattle.text.specs.Input.{box, sheetLength, sheetOf, afterLine, boxLines}
+use Rattle.text.specs.Input.{box, sheetLength, sheetOf, afterLine}
 use Rattle.text.specs.Output.{limitsText, refusalText}
 use Rattle.text.specs.Answer as rate
 use Rattle.text.specs.Answer.{unlessRefused}
 use Rattle.text.proofs.Faithful.{faithful}
 use Rattle.increments.specs.declared.Difference.{Difference}
 use Rattle.increments.specs.Call as Call
-use Rattle.increments.specs.Call.{sistersOf}
-use Rattle.sisters_text.specs.Input.{boats}
+use Rattle.increments.specs.Call.{boatsOf, sistersOf}
+use Rattle.sisters_text.specs.Input.{boats, boatsIn}
 use Rattle.sisters_text.specs.Output.{difference, differenceLine, differenceText}
 use Rattle.sisters_text.specs.Answer.{sistersText, partsText, answerOf}
-use Rattle.sisters_text.specs.Promises.{classIn, loads, SistersPrints}
+use Rattle.sisters_text.specs.Promises.{classIn, loads, engineOf, boxesIn, SistersPrints}
 use Rattle.sisters_text.proofs.Answering.{too-long}
 use Rattle.sisters_text.proofs.Fields.{range-inv}
 use Rattle.sisters_text.proofs.Lengths.{answer-whole}
@@ -76,9 +77,19 @@ loading-refused (Refused q) x y z f p = p
 
 class-refused : (s : List ℕ) (r : Refusal) → length s ≤ 8192 → rate.answerOf (classIn s) ≡ refusalText r → answerOf s ≡ refusalText r
 class-refused s r h p =
-    let l = loadedOf emptyEngine (sheetOf box (classIn s)) in
+    in-length s h ∙ loading-refused (loads s) _ _ _ (boxes-refused (engineOf s) (boxesIn s) _ r) (sym (rated-in-length s h) ∙ p)
+
+-- ---- the boats'
+no-numbers : (e : Engine) (xs : List ℤ) → 1 ≤ e .codelist .factors → ratedOf e xs .outcome ≡ Accepted
+    → differenceText (sistersOf e xs []) ≡ refusedText 8 0
+unfolding sistersOf boatsOf refusalText
+no-numbers e xs h a = rw (a, ne-eqb 0 (2 * e .codelist .factors) (λ z. omega (arith, h, z)))
+
+no-boats : (s : List ℕ) (xs : List ℤ) → length s ≤ 8192 → loads s ≡ Accepted → boxesIn s ≡ some xs → ratedOf (engineOf s) xs .outcome ≡ Accepted
+    → boatsIn (engineOf s .codelist .factors) (afterLine boats s) ≡ [] → answerOf s ≡ refusedText 8 0
+no-boats s xs h l b a e =
     in-length s h
-    ∙ loading-refused (l .outcome) _ _ _ (boxes-refused (l .engine) (boxLines 8 [] (afterLine box (classIn s))) _ r) (sym (rated-in-length s h) ∙ p)
+    ∙ rw (l, b, e) (no-numbers (engineOf s) xs (demands .loaded-written emptyEngine (sheetOf box (classIn s)) l .0 .factors .0) a)
 
 -- ---- what the text tells
 accepted-text : (d : Difference) → d .outcome ≡ Accepted → differenceText d ≡ differenceLine (fromTo (d .low) (d .high))
@@ -108,6 +119,7 @@ pub sisters-prints : SistersPrints
 sisters-prints = record {
   refused = refused-first;
   class = class-refused;
+  no-boats = no-boats;
   whole = answer-whole;
   determined = determined;
   apart = apart;
