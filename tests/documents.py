@@ -22,7 +22,7 @@ ROOT = Path(__file__).resolve().parent.parent
 OPERATIONS = ("add", "mul", "addc", "mulc", "pow", "inv")
 PROGRAMS = {"prints:": "rate", "tidied:": "tidy", "reported:": "fleet", "cut:": "cut", "sisters:": "sisters"}
 # no program prints 10, since each loads a sheet first, nor 13, since `tidy` has room for every sheet
-REFUSALS = {"rate": [*range(1, 10), 11, 12, 15], "fleet": [14], "cut": [16]}
+REFUSALS = {"rate": [*range(1, 10), 11, 12, 15], "fleet": [14], "cut": [16], "sisters": [8, 9]}
 
 
 def written(lines):
