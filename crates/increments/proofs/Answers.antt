@@ -1,23 +1,22 @@
 -- The answer put together: what each test of the code says of `boatsOf` and of `sistersOf`. Assumes nothing.
-use mathlib.Core.Path.{_≡_, refl, sym, ap, ap₂, _∙_}
+use mathlib.Core.Path.{_≡_, refl, ap, _∙_}
 use mathlib.Core.Bool.{true}
 use mathlib.Core.List.{List}
-use Prim.Native.Nat.{ℕ, zero, suc, _*_, _-_, _≤_, _<_}
+use Prim.Native.Nat.{ℕ, zero, suc, _*_}
 use native.Mathlib.Omega.{arith}
-use lib.Dec.{eqb, T}
+use lib.Dec.{T}
 use lib.IntN.{ℤ}
 use lib.ListN.{length}
-use lib.Signed.{leZ, leZ-yes, _≤ℤ_}
-use borrow.Author.Tests.{eq-eqb, ne-eqb, eqb-true}
+use lib.Signed.{leZ, leZ-yes}
+use borrow.Author.Tests.{eq-eqb, ne-eqb}
 use Rattle.algebra.proofs.Int.{≤ℤ-trans}
-use Rattle.codelist.specs.declared.Codelist.{Codelist}
 use Rattle.range.specs.declared.Range.{Range}
 use Rattle.range.specs.Limit.{isValid}
 use Rattle.range.specs.Sums.{at}
 use Rattle.range.proofs.Fitting.{InLimit, in-limit}
-use Rattle.range.proofs.Valid.{T-true, true-T, and-left, and-right, ends-of}
+use Rattle.range.proofs.Valid.{true-T, and-left, and-right, ends-of}
 use Rattle.rules.specs.declared.Refusal.the-variants.{RangeCount, BadRange}
-use Rattle.rules.specs.Rate.{pairs, rateOf, rated}
+use Rattle.rules.specs.Rate.{pairs, rated}
 use Rattle.rules.proofs.Accepted.{accepted}
 use Rattle.rules.proofs.FirstBad.{all-good}
 use Rattle.rules.proofs.Passing.{good-iff}
@@ -28,10 +27,9 @@ use Rattle.engine.specs.declared.Refusal.the-variants.{Rate}
 use Rattle.engine.specs.Engine.{ratedOf}
 use Rattle.engine.proofs.Demands.{accepted-rating}
 use Rattle.engine.proofs.Validity.{accepted-valid}
-use Rattle.increments.specs.declared.Difference.{Difference}
-use Rattle.increments.specs.Call.{first, second, holds, firstOutside, differenceOf, refusedWith, unlessOutside, boatsOf, unlessRefused, sistersOf}
+use Rattle.increments.specs.Call.{first, second, holds, firstOutside, differenceOf, refusedWith, unlessOutside, boatsOf, sistersOf}
 use Rattle.increments.specs.Steps.{Classed, Apart}
-use Rattle.increments.proofs.Outside.{bothIn, all-inside}
+use Rattle.increments.proofs.Outside.{all-inside}
 
 -- ---- the boats of a rated class
 module _ (n : ℕ) (rs g : List Range) (bs : List ℤ) where
@@ -40,7 +38,7 @@ module _ (n : ℕ) (rs g : List Range) (bs : List ℤ) where
   another-count f = rw (ne-eqb (length bs) (2 * n) f)
 
   module _ (e : length bs ≡ 2 * n) where
-    counted : unlessOutside (firstOutside n rs bs) (differenceOf n g bs) ≡ boatsOf n rs g bs
+    pub counted : unlessOutside (firstOutside n rs bs) (differenceOf n g bs) ≡ boatsOf n rs g bs
     unfolding boatsOf
     counted = rw (eq-eqb (length bs) (2 * n) e)
 

@@ -3,3 +3,10 @@ pub mod Shifting
 pub mod Totals
 pub mod Outside
 pub mod Answers
+-- specs/Promises
+pub mod Points
+pub mod Cases
+pub mod Refusals
+pub mod Rounded
+pub mod Exchanging
+pub mod Promises

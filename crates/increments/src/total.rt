@@ -1,6 +1,5 @@
 // The sums of the least and of the greatest products of each slope's ends with that factor's difference.
 ghost use mathlib.Core.Path.{_≡_};
-ghost use mathlib.Core.Bool.{true};
 ghost use Prim.Native.Nat.{_≤_};
 ghost use lib.IntN.{natAbs};
 ghost use Rattle.exact.specs.Div.{floorDiv, ceilDiv};

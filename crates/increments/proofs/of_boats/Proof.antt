@@ -1,7 +1,6 @@
 -- `increments::of_boats` meets its contract. Assumes nothing.
 use borrow.Author.Needs.{needs}
 use mathlib.Core.Path.{_≡_, sym, _∙_}
-use Prim.Native.Nat.{_≤_}
 use native.Mathlib.Omega.{arith}
 use Rattle.rules.specs.Rate.{pairs}
 use Rattle.increments.specs.Call.{firstOutside}

@@ -8,7 +8,6 @@ use Rattle.engine.specs.declared.Outcome.the-variants.{Accepted}
 use Rattle.engine.specs.declared.Rating.{Rating}
 use Rattle.engine.specs.Engine.{ratedOf}
 use Rattle.increments.specs.Call.{boatsOf}
-use Rattle.increments.specs.Steps.{Classed}
 use Rattle.increments.proofs.Answers.{classed, class-rated, class-refused}
 use Rattle.increments.proofs.sisters.Statement.{statement}
 use Rattle.increments.proofs.sisters.Tie as tie

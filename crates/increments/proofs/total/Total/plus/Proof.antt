@@ -1,11 +1,9 @@
 -- `increments::total::Total::plus` meets its contract. Assumes nothing.
 use mathlib.Core.Path.{_≡_, ap, _∙_}
-use Prim.Native.Nat.{_≤_}
 use native.Mathlib.Omega.{arith}
-use lib.IntN.{ℤ, pos, _+ℤ_, _-ℤ_, _*ℤ_}
+use lib.IntN.{ℤ, pos, _+ℤ_, _*ℤ_}
 use mir.Syntax.{w64}
 use mir.Val.{toZ, ofZ}
-use Rattle.exact.specs.Div.{floorDiv}
 use Rattle.exact.proofs.Machine.{fits-abs}
 use Rattle.range.proofs.Fitting.{InLimit}
 use Rattle.increments.specs.declared.total.Total.{Total}

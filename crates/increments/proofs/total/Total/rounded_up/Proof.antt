@@ -4,8 +4,6 @@ use mathlib.Core.Path.{_≡_, ap, _∙_}
 use Prim.Native.Nat.{_≤_}
 use native.Mathlib.Omega.{arith}
 use lib.IntN.{ℤ, natAbs, _+ℤ_}
-use mir.Syntax.{w64}
-use mir.Val.{toZ, ofZ}
 use Rattle.exact.specs.Div.{ceilDiv}
 use Rattle.exact.proofs.Machine.{fits-abs}
 use Rattle.increments.proofs.Shifting.{ceil-abs}
