@@ -19,7 +19,7 @@ use Rattle.algebra.proofs.Solver.{_:+_, _:-_, _:*_, _:=_, ring}
 use Rattle.algebra.proofs.Sum.{sum, sumBelow, sum-ext}
 use Rattle.exact.specs.Div.{floorDiv, ceilDiv}
 use Rattle.exact.proofs.Div.{floor-le, floor-lt}
-use Rattle.exact.proofs.DivSum.{floor-sums, ceil-sums}
+use Rattle.exact.proofs.DivSum.{ceil-raised, floor-sums, ceil-sums}
 use Rattle.exact.proofs.Machine.{leZ-true, leZ-false, fits-abs}
 use Rattle.range.specs.declared.Range.{Range}
 use Rattle.range.specs.Arithmetic.{lesserOf, greaterOf}
@@ -31,7 +31,7 @@ use Rattle.range.proofs.Valid.{ends-of, true-T}
 use Rattle.increments.specs.declared.total.Total.{Total}
 use Rattle.increments.specs.Call.{first, second, apartBy, leastSum, greatestSum}
 use Rattle.increments.specs.Steps.{leastEnd, greatestEnd, Room, withProduct, roundedDown, roundedUp, Apart}
-use Rattle.increments.proofs.Shifting.{floor-abs, ceil-abs}
+use Rattle.increments.proofs.Shifting.{floor-abs}
 
 -- ════ the ends ════
 
@@ -146,16 +146,25 @@ module _ (t : Total) (r : Room t) where
   pub rest-more : (x : ℤ) → natAbs x ≤ 1000000000000000 → natAbs (t .rest +ℤ x) ≤ 2000000000000000
   rest-more x h = omega (arith, add-abs (t .rest) x, r .rest)
 
-  -- and the sum, rounded
-  pub down-read : toZ w64 (ofZ w64 (roundedDown t)) ≡ roundedDown t
-  down-read =
-      let q = floorDiv (t .rest) 10000 in
-      few-read (roundedDown t) (omega (arith, whole-more q (omega (arith, floor-abs (t .rest), r .rest))))
+-- the sum, rounded; rounded up it is that of 9,999 more, rounded down
+pub down-read : (t : Total) → natAbs (t .whole) ≤ 10000000000000000 → natAbs (t .rest) ≤ 1000000000000000
+    → toZ w64 (ofZ w64 (roundedDown t)) ≡ roundedDown t
+down-read t w r =
+    let q = floorDiv (t .rest) 10000 in
+    few-read (roundedDown t) (omega (arith, add-abs (t .whole) q, floor-abs (t .rest)))
+
+abbrev pub raisedTotal : Total → Total
+raisedTotal t = record { whole = t .whole; rest = t .rest +ℤ pos 9999 }
+
+pub up-down : (t : Total) → roundedUp t ≡ roundedDown (raisedTotal t)
+up-down t = ap (t .whole +ℤ_) (ceil-raised {d = 10000} (lit< tt) (t .rest) 9999 refl)
+
+module _ (t : Total) (r : Room t) where
+  pub raised-few : natAbs (t .rest +ℤ pos 9999) ≤ 1000000000000000
+  raised-few = omega (arith, add-abs (t .rest) (pos 9999), r .rest)
 
   pub up-read : toZ w64 (ofZ w64 (roundedUp t)) ≡ roundedUp t
-  up-read =
-      let q = ceilDiv (t .rest) 10000 in
-      few-read (roundedUp t) (omega (arith, whole-more q (omega (arith, ceil-abs (t .rest), r .rest))))
+  up-read = rw (up-down t) (down-read (raisedTotal t) (r .whole) raised-few)
 
 -- ════ the loop ════
 

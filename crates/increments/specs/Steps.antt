@@ -21,10 +21,10 @@ leastEnd g d = cond (leZ (pos 0) d) (g .low) (g .high)
 abbrev pub greatestEnd : Range → ℤ → ℤ
 greatestEnd g d = cond (leZ (pos 0) d) (g .high) (g .low)
 
--- sums that leave room for one product more
+-- sums that leave room for one product more, and for what rounding up adds
 pub record Room (t : Total) : Type 0 where
   pub whole : natAbs (t .whole) ≤ 10000000000000000
-  pub rest : natAbs (t .rest) ≤ 1000000000000000
+  pub rest : natAbs (t .rest) ≤ 900000000000000
 
 -- the sum with e·d more, e parted by 10,000
 abbrev pub withProduct : Total → ℤ → ℤ → Total

@@ -2,7 +2,7 @@
 ghost use mathlib.Core.Path.{_≡_};
 ghost use Prim.Native.Nat.{_≤_};
 ghost use lib.IntN.{natAbs};
-ghost use Rattle.exact.specs.Div.{floorDiv, ceilDiv};
+ghost use Rattle.exact.specs.Div.{floorDiv};
 ghost use Rattle.increments.specs.Call.{differenceOf};
 ghost use Rattle.increments.specs.Steps.{leastEnd, greatestEnd, Room, withProduct, roundedDown, roundedUp, Apart};
 use super::Difference;
@@ -15,14 +15,6 @@ fn floor_div(x: i64) -> i64
     ensures { λ r. ⌜ r ≡ floorDiv x 10000 ⌝ }
 {
     (x + 1_000_000_000_000_000) / 10_000 - 100_000_000_000
-}
-
-// x / 10,000, rounded toward plus infinity.
-fn ceil_div(x: i64) -> i64
-    requires { ⌜ natAbs x ≤ 1000000000000000 ⌝ }
-    ensures { λ r. ⌜ r ≡ ceilDiv x 10000 ⌝ }
-{
-    (x + 1_000_000_000_009_999) / 10_000 - 100_000_000_000
 }
 
 // A sum of products, exact: 10,000 times `whole`, and `rest`. Eight products of slopes and differences may not fit 64 bits.
@@ -48,19 +40,25 @@ impl Total {
         }
     }
 
-    // The sum divided by 10,000 and rounded down, and rounded up: once.
+    // The sum divided by 10,000, once, and rounded down.
     fn rounded_down(self) -> i64
-        requires { ⌜ Room self ⌝ }
+        requires { ⌜ natAbs (self .whole) ≤ 10000000000000000 ⌝ }
+        requires { ⌜ natAbs (self .rest) ≤ 1000000000000000 ⌝ }
         ensures { λ r. ⌜ r ≡ roundedDown self ⌝ }
     {
         self.whole + floor_div(self.rest)
     }
 
+    // And rounded up, which is down from 9,999 more.
     fn rounded_up(self) -> i64
         requires { ⌜ Room self ⌝ }
         ensures { λ r. ⌜ r ≡ roundedUp self ⌝ }
     {
-        self.whole + ceil_div(self.rest)
+        let raised = Total {
+            whole: self.whole,
+            rest: self.rest + 9_999,
+        };
+        raised.rounded_down()
     }
 }
 

@@ -129,7 +129,7 @@ module _ (c : tie.After-loop Inv-loop μ-loop) where
   greatest-room = summed-room _ _ _ _ _ _ (c .before .loop .inv .2) (omega (arith, all, from .pre .few))
 
   low : toZ w64 (ofZ w64 (roundedDown (c .before .loop .least))) ≡ floorDiv (leastSum (from .args .n) (from .args .t1) (from .args .boats .now)) 10000
-  low = down-read _ least-room ∙ least-total _ _ _ (from .pre .slopes) _ (rw all at (c .before .loop .inv .1))
+  low = down-read (c .before .loop .least) (least-room .whole) (omega (arith, least-room .rest)) ∙ least-total _ _ _ (from .pre .slopes) _ (rw all at (c .before .loop .inv .1))
 
   high : toZ w64 (ofZ w64 (roundedUp (c .before .loop .greatest))) ≡ ceilDiv (greatestSum (from .args .n) (from .args .t1) (from .args .boats .now)) 10000
   high = up-read _ greatest-room ∙ greatest-total _ _ _ (from .pre .slopes) _ (rw all at (c .before .loop .inv .2))
@@ -166,6 +166,6 @@ difference-spec =
     (λ c. let t = c .before .before .before .before .before .before .before .before in omega (arith, below t, apart t .few))
     (λ c. omega arith)
     loop-again
-    (λ c κs. least-room c)
+    (λ c κs. (least-room c .whole, omega (arith, least-room c .rest)))
     (λ c κs. greatest-room (c .before))
     returns)

@@ -1,45 +1,45 @@
 -- `increments::total::Total::rounded_up` meets its contract. Assumes nothing.
-use borrow.Author.Needs.{needs}
-use mathlib.Core.Path.{_≡_, ap, _∙_}
-use Prim.Native.Nat.{_≤_}
+use mathlib.Core.Path.{_≡_, sym, ap, ap₂, _∙_}
 use native.Mathlib.Omega.{arith}
-use lib.IntN.{ℤ, natAbs, _+ℤ_}
-use Rattle.exact.specs.Div.{ceilDiv}
+use lib.IntN.{ℤ, pos, _+ℤ_}
+use mir.Syntax.{w64}
+use mir.Val.{toZ, ofZ}
 use Rattle.exact.proofs.Machine.{fits-abs}
-use Rattle.increments.proofs.Shifting.{ceil-abs}
-use Rattle.increments.proofs.Totals.{few-read, whole-more}
+use Rattle.increments.specs.declared.total.Total.{Total}
+use Rattle.increments.specs.Steps.{roundedDown}
+use Rattle.increments.proofs.Totals.{few-read, raisedTotal, raised-few, up-down, up-read}
 use Rattle.increments.proofs.total.Total.rounded_up.Statement.{statement}
 use Rattle.increments.proofs.total.Total.rounded_up.Tie as tie
 
--- what was divided
-module _ (c : tie.After-ceil-div) where
-  abbrev start : tie.Start
-  start = c .before .before
+-- what is rounded down, as it is read
+module _ (s : tie.Start) where
+  abbrev t : Total
+  t = s .args .self
 
-  abbrev t : ℤ
-  t = start .args .self .rest
+  whole-read : toZ w64 (ofZ w64 (t .whole)) ≡ t .whole
+  whole-read = few-read (t .whole) (omega (arith, s .pre .whole))
 
-  is : c .ceil-div .result ≡ ceilDiv t 10000
-  is = c .ceil-div .ensures ∙ ap (λ (z : ℤ). ceilDiv z 10000) (few-read t (omega (arith, start .pre .rest)))
+  rest-read : toZ w64 (ofZ w64 (t .rest)) ≡ t .rest
+  rest-read = few-read (t .rest) (omega (arith, s .pre .rest))
 
-  few : natAbs (ceilDiv t 10000) ≤ 1000000000000000
-  few = omega (arith, ceil-abs t, start .pre .rest)
+  raised-read : toZ w64 (ofZ w64 (toZ w64 (ofZ w64 (t .rest)) +ℤ pos 9999)) ≡ t .rest +ℤ pos 9999
+  raised-read = rw rest-read (few-read (t .rest +ℤ pos 9999) (omega (arith, raised-few t (s .pre))))
 
-add-result : tie.Need-add-result
-add-result c =
-    let d = c .before .before in
-    let s = start d in
-    let q = ceilDiv (t d) 10000 in
-    simp (few-read (s .args .self .whole) (omega (arith, s .pre .whole)), is d, few-read q (omega (arith, few d)))
-    (fits-abs (s .args .self .whole +ℤ q) (omega (arith, whole-more (s .args .self) (s .pre) q (few d))))
+add-t3 : tie.Need-add-t3
+add-t3 c =
+    let s = c .before .before in
+    rw (rest-read s) (fits-abs (t s .rest +ℤ pos 9999) (omega (arith, raised-few (t s) (s .pre))))
+
+rounded-down-requires : tie.Need-rounded-down-requires
+rounded-down-requires c κs =
+    let s = c .before .before .before in (rw (whole-read s) (s .pre .whole), rw (raised-read s) (raised-few (t s) (s .pre)))
 
 returns : tie.Need-returns
 returns c =
-    let d = c .before .before in
-    let s = start d in
-    let q = ceilDiv (t d) 10000 in
-    simp (few-read (s .args .self .whole) (omega (arith, s .pre .whole)), is d, few-read q (omega (arith, few d)))
-    (few-read (s .args .self .whole +ℤ q) (omega (arith, whole-more (s .args .self) (s .pre) q (few d))))
+    let s = c .before .before .before .before in
+    let down : c .rounded-down .result ≡ roundedDown (raisedTotal (t s)) =
+    c .rounded-down .ensures ∙ ap₂ (λ (w r : ℤ). roundedDown (record { whole = w; rest = r })) (whole-read s) (raised-read s) in
+    ap (λ (z : ℤ). toZ w64 (ofZ w64 z)) (down ∙ sym (up-down (t s))) ∙ up-read (t s) (s .pre)
 
 pub rounded-up-spec : {M : Type 1} → statement M
-rounded-up-spec = tie.close (tie.spec (λ c κs. search needs) add-result returns)
+rounded-up-spec = tie.close (tie.spec add-t3 rounded-down-requires returns)
