@@ -467,17 +467,16 @@ def misplaced(rng):
     return b"\n".join(b"\t".join(fields) for fields in rows)
 
 
-def damaged(rng):
-    """Bytes of an input changed, doubled, dropped or cut off."""
-    growing = accepted(rng, *size(rng)) if rng.random() < 0.2 else small(rng)
-    text = bytearray(input_text(growing.sheet(), growing.ranges))
-    for _ in range(rng.choice((1, 1, 1, 2, 5))):
+def scratched(rng, text, times, more):
+    """Bytes of a text changed, doubled, dropped or cut off, so many times as one of `times` says; a byte that is put in is one of `more`."""
+    text = bytearray(text)
+    for _ in range(rng.choice(times)):
         at = rng.randrange(len(text) + 1)
         choice = rng.randrange(5)
         if choice == 0:
             text[at:at + 1] = bytes([rng.randrange(256)])
         elif choice == 1:
-            text[at:at] = bytes([rng.choice(b"\t\n\r -0129abox")])
+            text[at:at] = bytes([rng.choice(more)])
         elif choice == 2:
             del text[at:at + 1]
         elif choice == 3:
@@ -485,6 +484,12 @@ def damaged(rng):
         else:
             text[at:at] = text[at:at + rng.randint(1, 12)]
     return bytes(text)
+
+
+def damaged(rng):
+    """Inputs with bytes changed, doubled, dropped or cut off."""
+    growing = accepted(rng, *size(rng)) if rng.random() < 0.2 else small(rng)
+    return scratched(rng, input_text(growing.sheet(), growing.ranges), (1, 1, 1, 2, 5), b"\t\n\r -0129abox")
 
 
 def boxes(rng):

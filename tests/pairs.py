@@ -8,7 +8,7 @@ from functools import lru_cache
 import generate
 from cuts import KEPT, SUM, turned
 from fleets import BROKEN
-from generate import Growing, box_text, input_text, magnitude
+from generate import Growing, box_text, input_text, magnitude, scratched
 from orders import BOX_COUNT, BOX_FORM, DIVISOR, END, INPUT, NONE, PAST, TOO_FAR, TURNED, broken, loosely
 from orders import cases as order_cases
 from reference.ranges import LIMIT, UNIT, Range
@@ -242,21 +242,8 @@ def whole(rng):
 def damaged(rng):
     """Boat lines with bytes changed, doubled, dropped or cut off."""
     sheet, ranges = some_class(rng)
-    text = bytearray(boats_text(*some_boats(rng, ranges)))
-    for _ in range(rng.choice((1, 1, 1, 2, 3))):
-        at = rng.randrange(len(text) + 1)
-        choice = rng.randrange(5)
-        if choice == 0:
-            text[at:at + 1] = bytes([rng.randrange(256)])
-        elif choice == 1:
-            text[at:at] = bytes([rng.choice(b"\t\n\r -019boats")])
-        elif choice == 2:
-            del text[at:at + 1]
-        elif choice == 3:
-            del text[at:]
-        else:
-            text[at:at] = text[at:at + rng.randint(1, 12)]
-    return input_text(sheet, ranges) + bytes(text)
+    boats = boats_text(*some_boats(rng, ranges))
+    return input_text(sheet, ranges) + scratched(rng, boats, (1, 1, 1, 2, 3), b"\t\n\r -019boats")
 
 
 KINDS = [
