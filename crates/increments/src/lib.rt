@@ -18,8 +18,8 @@ pub struct Difference {
     pub high: i64,
 }
 
-// From which to which difference the second boat's premium may be off the first's. `boats` has the values of the first boat, one per factor,
-// and then those of the second. The class's refusals come first, then 8 and 9 of the boats.
+// Between which two numbers the second boat's premium less the first one's lies. `boats` has the values of the first boat, one per factor, and then
+// those of the second. The class's refusals come first, then 8 and 9 of the boats.
 pub fn sisters(engine: Engine, ranges: &[i64], boats: &[i64]) -> Difference
     ensures { λ r. ⌜ r ≡ sistersOf engine (now (ranges .entry)) (now (boats .entry)) ⌝ }
 {
