@@ -43,7 +43,7 @@ use Rattle.engine.specs.Refusals.{RateTable, count, range, no-codelist, 
 use Rattle.engine.specs.Demands.{Demands}
 
 -- an accepted outcome is no refusal
-not-both : {A : Type 0} {r : Refusal} → Accepted ≡ Refused r → A
+pub not-both : {A : Type 0} {r : Refusal} → Accepted ≡ Refused r → A
 not-both e = let z : _≡_ {A = ℕ} 0 1 = cc in let f : ⊥ = omega arith in absurd f
 
 -- the entry i of a list is in it

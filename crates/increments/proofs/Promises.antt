@@ -12,12 +12,12 @@ use Rattle.engine.specs.declared.Outcome.the-variants.{Accepted}
 use Rattle.engine.specs.declared.Refusal.{Refusal}
 use Rattle.engine.specs.declared.Refusal.the-variants.{Rate}
 use Rattle.engine.specs.Engine.{ratedOf}
-use Rattle.engine.proofs.Demands.{demands}
+use Rattle.engine.proofs.Demands.{not-both, demands}
 use Rattle.increments.specs.declared.Difference.{Difference}
 use Rattle.increments.specs.Call.{differenceOf, refusedWith, sistersOf}
 use Rattle.increments.specs.Promises.{one, other, Bounded, Exact, SistersCall}
 use Rattle.increments.proofs.Cases.{Case, unrated, miscounted, one-outside, both-inside, case}
-use Rattle.increments.proofs.Refusals.{not-both, decided, numbers, zero, inside, refused-listed, one-refusal}
+use Rattle.increments.proofs.Refusals.{decided, numbers, zero, inside, refused-listed, one-refusal}
 use Rattle.increments.proofs.Rounded.{least-down, greatest-up}
 use Rattle.increments.proofs.Exchanging.{exchanged, equal}
 

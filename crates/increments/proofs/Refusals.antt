@@ -26,7 +26,7 @@ use Rattle.engine.specs.declared.Outcome.the-variants.{Accepted, Refused}
 use Rattle.engine.specs.declared.Refusal.{Refusal}
 use Rattle.engine.specs.declared.Refusal.the-variants.{Rate}
 use Rattle.engine.specs.Engine.{numberOf}
-use Rattle.engine.proofs.Demands.{demands}
+use Rattle.engine.proofs.Demands.{not-both, demands}
 use Rattle.increments.specs.declared.Difference.{Difference}
 use Rattle.increments.specs.Call.{first, second, holds, firstOutside, refusedWith, sistersOf}
 use Rattle.increments.specs.Promises.{one, other, Outside, BoatOutside, LowestOutside, OfClass, SistersRefusedFor}
@@ -34,10 +34,6 @@ use Rattle.increments.proofs.Outside.{bothIn, Found, none, lowest, foun
 use Rattle.increments.proofs.Points.{one-at, other-at}
 use Rattle.increments.proofs.Cases.{refused-unrated, refused-count, refused-outside, accepted-inside}
 use Rattle.increments.proofs.Cases.{Case, unrated, miscounted, one-outside, both-inside, case}
-
--- an accepted call is not refused
-pub not-both : {A : Type 0} {r : Refusal} → Accepted ≡ Refused r → A
-not-both e = absurd (let z : _≡_ {A = ℕ} 0 1 = cc in omega arith)
 
 -- ---- tests that fail
 either-false : {P Q : Type 0} (b c : Bool) → (b ≡ false) ↔ P → (c ≡ false) ↔ Q → ((b && c) ≡ false) ↔ (P ⊎ Q)
