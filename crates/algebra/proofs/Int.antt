@@ -291,6 +291,10 @@ add-abs x y = go (one-part (x +ℤ y))
     go (inl e) = omega (arith, add-dif x y, natAbs-parts x, natAbs-parts y, natAbs-parts (x +ℤ y))
     go (inr e) = omega (arith, add-dif x y, natAbs-parts x, natAbs-parts y, natAbs-parts (x +ℤ y))
 
+pub within-abs : (n : ℕ) (x : ℤ) → negℤ (pos n) ≤ℤ x → x ≤ℤ pos n → natAbs x ≤ n
+within-abs n (pos a) l h = omega ints
+within-abs n (negsuc a) l h = omega (ints, neg-dif (pos n))
+
 pub mul-abs : (x y : ℤ) → natAbs (x *ℤ y) ≡ natAbs x * natAbs y
 mul-abs (pos a) (pos b) = refl
 mul-abs (pos a) (negsuc b) = neg-abs (pos (a * suc b))

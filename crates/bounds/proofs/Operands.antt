@@ -9,13 +9,13 @@ use lib.Dec.{eqb}
 use lib.Signed.{leZ}
 use Rattle.range.specs.declared.Range.{Range}
 use Rattle.range.specs.Limit.{least, most, zeroRange, over, isValid, bothValid, kept, sticky₂}
-use Rattle.range.specs.Arithmetic.{endsSum, sumOf, timesOf, endsProduct, productOf, inverseOf, hullOf}
+use Rattle.range.specs.Arithmetic.{endsSum, sumOf, timesOf, spreadOf, productOf, inverseOf, hullOf}
 use Rattle.range.specs.Power.{powOf}
 use Rattle.range.specs.Star.{starOf}
 use Rattle.range.specs.Laws.{Settled}
 use Rattle.range.proofs.Valid.{T-true, true-T, both-valid, if-passed, by-test, ends-of}
 use Rattle.range.proofs.Fitting.{and-first, and-second}
-use Rattle.range.proofs.Ordered.{sum-ordered, product-ordered}
+use Rattle.range.proofs.Ordered.{sum-ordered, spread-ordered}
 use Rattle.range.proofs.Laws.{laws}
 use Rattle.rules.specs.Sets.{apart, isSingle}
 use Rattle.bounds.specs.Terms.{Told, extendedOf, sumSpectrumOf, crossSpectrumOf}
@@ -45,8 +45,8 @@ module _ (r : Range) (o : InOrder r) {s : Bool} where
 pub sum-in-order : (a b : Range) → isValid a ≡ true → isValid b ≡ true → InOrder (endsSum a b)
 sum-in-order a b v w = T-true (sum-ordered a b (ends-of a (true-T v) .order) (ends-of b (true-T w) .order) .le)
 
-pub product-in-order : (a b : Range) → InOrder (endsProduct a b)
-product-in-order a b = T-true (product-ordered a b .le)
+pub spread-in-order : (a b : Range) → InOrder (spreadOf a b)
+spread-in-order a b = T-true (spread-ordered a b .le)
 
 -- ---- what an operation gives
 pub settled-told : (r : Range) → Settled r → Told r

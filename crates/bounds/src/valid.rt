@@ -62,7 +62,7 @@ pub(crate) fn product(a: Range, b: Range) -> Range
     if b.is_zero() {
         return Range::ZERO;
     }
-    limited(spread(a, b).scaled())
+    spread(a, b).scaled_within()
 }
 
 // Whether what an operation gave is a range. Where it is none its ends are out of order, so that one comparison tells.

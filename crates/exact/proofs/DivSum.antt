@@ -25,6 +25,10 @@ module _ {d : ℕ} (p : zero < d) where
       (floor-iff (f +ℤ k) _ p .1
       (linarith ℤ-ordered 4 (λ x k f d. f :* d :≤ x ⇒ ⊢ (f :+ k) :* d :≤ x :+ k :* d) tt x k f (pos d) (floor-le x p)))
 
+  -- and taken off the quotient again
+  pub floor-back : (x k : ℤ) → floorDiv (x +ℤ k *ℤ pos d) d -ℤ k ≡ floorDiv x d
+  floor-back x k = ap (_-ℤ k) (floor-shift x k) ∙ ring ℤ-ring 2 (λ f k. f :+ k :- k := f) tt (floorDiv x d) k
+
   pub ceil-apart : (q r : ℤ) → ceilDiv (q *ℤ pos d +ℤ r) d ≡ q +ℤ ceilDiv r d
   ceil-apart q r =
       let c = ceilDiv r d in

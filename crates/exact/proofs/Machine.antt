@@ -1,19 +1,20 @@
--- Machine integers: when an integer fits an i64, and what Rattle's division, which rounds toward zero, gives in each branch of a division
--- that rounds down or up by a divisor above 0. Each step of −1 − (−1 − x) / d and of (x − 1) / d + 1 fits.
+-- Machine integers: tests as code makes them, when an integer fits an i64, and what an unsigned division gives of a dividend that was raised by a
+-- multiple of the divisor until it was not below 0.
 use mathlib.Core.Path.{_≡_, refl, ap, _∙_}
 use mathlib.Core.Bool.{Bool, true, false}
-use Prim.Native.Nat.{ℕ, zero, suc, _+_, _/_, _≤_, _<_, zero-le}
+use Prim.Native.Nat.{ℕ, zero, suc, _/_, _≤_, _<_, zero-le}
 use native.Mathlib.Omega.{arith}
-use native.Mathlib.Nat.{div-le-self, zero-div}
-use borrow.Author.Tests.{ltb-true, ltb-false}
+use native.Mathlib.Nat.{div-le-self}
 use lib.Dec.{T}
-use lib.IntN.{ℤ, pos, negsuc, negℤ, natAbs, _+ℤ_, _-ℤ_, +ℤ-one, -ℤ-one, +ℤ-comm}
+use lib.IntN.{ℤ, pos, negsuc, negℤ, natAbs, _+ℤ_, _-ℤ_, _*ℤ_, -ℤ-one}
 use lib.Signed.{leZ, ltZ, ltZ-no, mag, quotZ, _≤ℤ_, _<ℤ_}
 use mir.Syntax.{w64}
-use mir.Val.{SFits, ofZ}
+use mir.Val.{SFits}
 use mir.ValLaws.{sfits-le}
-use Rattle.algebra.proofs.Int.{ints, posPart, negPart, ≤-out, ≤-in, <-out, <-in, leZ-no}
+use Rattle.algebra.proofs.Int.{ints, ℤ-ring, add-dif, sub-dif, leZ-no, <-pos, ≤ℤ-trans, ≤ℤ-of-≡}
+use Rattle.algebra.proofs.Solver.{_:+_, _:=_, ring}
 use Rattle.exact.proofs.Div.{floorDiv, ceilDiv}
+use Rattle.exact.proofs.DivSum.{floor-back, ceil-raised}
 
 -- ---- tests, as code makes them
 true-T : (t : Bool) → T t → t ≡ true
@@ -36,55 +37,15 @@ module _ (a b : ℤ) where
   pub ≤ℤ-leZ : a ≤ℤ b → leZ a b ≡ true
   ≤ℤ-leZ h = true-T (leZ a b) (h .le)
 
-  pub <ℤ-ltZ : a <ℤ b → ltZ a b ≡ true
-  <ℤ-ltZ h = true-T (ltZ a b) (h .lt)
-
-  -- the same as facts about naturals: with these rules `omega tests` reads and proves tests of integers
-  pub leZ-out : leZ a b ≡ true → posPart a + negPart b ≤ posPart b + negPart a
-  leZ-out e = ≤-out (leZ-true e)
-
-  pub nleZ-out : leZ a b ≡ false → posPart b + negPart a < posPart a + negPart b
-  nleZ-out e = <-out (leZ-false e)
-
-  pub ltZ-out : ltZ a b ≡ true → posPart a + negPart b < posPart b + negPart a
-  ltZ-out e = <-out (ltZ-true e)
-
-  pub nltZ-out : ltZ a b ≡ false → posPart b + negPart a ≤ posPart a + negPart b
-  nltZ-out e = ≤-out (ltZ-false e)
-
-  pub leZ-in : posPart a + negPart b ≤ posPart b + negPart a → leZ a b ≡ true
-  leZ-in h = ≤ℤ-leZ (≤-in h)
-
-  pub ltZ-in : posPart a + negPart b < posPart b + negPart a → ltZ a b ≡ true
-  ltZ-in h = <ℤ-ltZ (<-in h)
-
-pub ruleset tests = (ints, leZ-out, nleZ-out, ltZ-out, nltZ-out, leZ-in, ltZ-in)
-
 -- ---- what fits
 -- a number below 2 ^ 63 in magnitude
 pub fits-abs : (z : ℤ) → natAbs z ≤ 9223372036854775807 → SFits w64 z
 fits-abs (pos n) h = omega arith
 fits-abs (negsuc n) h = omega arith
 
--- ---- −1 − x, which fits where x does
-flip-pos : (n : ℕ) → negsuc 0 -ℤ pos n ≡ negsuc n
-flip-pos zero = refl
-flip-pos (suc n) = ap negsuc (omega arith)
-
-flip-negsuc : (n : ℕ) → negsuc 0 -ℤ negsuc n ≡ pos n
-flip-negsuc n = +ℤ-comm (negsuc 0) (pos (suc n)) ∙ -ℤ-one (pos (suc n))
-
-pub flip-fits : (x : ℤ) → SFits w64 x → SFits w64 (negsuc 0 -ℤ x)
-flip-fits (pos n) f = rw (flip-pos n) record { sfits = f .sfits }
-flip-fits (negsuc n) f = rw (flip-negsuc n) record { sfits = f .sfits }
-
--- ---- the divisor and the quotient
+-- a quotient
 no-divisor : false ≡ true → ⊥
 no-divisor e = let z : _≡_ {A = ℕ} 0 1 = cc in omega arith
-
-pub divisor-above : (d : ℤ) → ltZ (pos 0) d ≡ true → 0 < ofZ w64 d
-divisor-above (pos b) p = ltb-true 0 b p
-divisor-above (negsuc b) p = absurd (no-divisor p)
 
 neg-mag : (m a : ℕ) → m ≤ suc a → mag (negℤ (pos m)) ≤ a
 neg-mag zero a h = zero-le
@@ -95,48 +56,36 @@ quot-fits (pos a) (pos b) p f = sfits-le (div-le-self a b) f
 quot-fits (negsuc a) (pos b) p f = sfits-le (neg-mag (suc a / b) a (div-le-self (suc a) b)) f
 quot-fits x (negsuc b) p f = absurd (no-divisor p)
 
-pub one-less-fits : (x : ℤ) → ltZ (pos 0) x ≡ true → SFits w64 x → SFits w64 (x -ℤ pos 1)
-one-less-fits (pos zero) p f = absurd (no-divisor p)
-one-less-fits (pos (suc n)) p f = rw (-ℤ-one (pos (suc n))) (omega arith)
-one-less-fits (negsuc n) p f = absurd (no-divisor p)
-
-pub one-more-fits : (x d : ℤ) → ltZ (pos 0) d ≡ true → ltZ (pos 0) x ≡ true → SFits w64 x → SFits w64 (quotZ (x -ℤ pos 1) d +ℤ pos 1)
-one-more-fits (pos zero) d p q f = absurd (no-divisor q)
-one-more-fits (pos (suc n)) (pos b) p q f = rw (-ℤ-one (pos (suc n)), +ℤ-one (pos (n / b))) (omega (arith, div-le-self n b))
-one-more-fits (pos (suc n)) (negsuc b) p q f = absurd (no-divisor p)
-one-more-fits (negsuc n) d p q f = absurd (no-divisor q)
-
--- ---- the branches: what each gives is the quotient rounded down, or up
-pub floor-below : (x d : ℤ) → ltZ (pos 0) d ≡ true → ltZ x (pos 0) ≡ true → negsuc 0 -ℤ quotZ (negsuc 0 -ℤ x) d ≡ floorDiv x (natAbs d)
+-- ---- a division by a shift: the dividend x is raised by k times the divisor, so that it is not below 0, divided, and the quotient lowered by k
+-- as signed numbers
+pub quot-lowered : {b : ℕ} → 0 < b → (x k : ℤ) → pos 0 ≤ℤ (x +ℤ k *ℤ pos b) → quotZ (x +ℤ k *ℤ pos b) (pos b) -ℤ k ≡ floorDiv x b
 unfolding floorDiv
-floor-below (pos n) d p q = let f : ⊥ = omega (arith, ltb-true n 0 q) in absurd f
-floor-below (negsuc n) (pos b) p q = rw (flip-negsuc n, flip-pos (n / b))
-floor-below (negsuc n) (negsuc b) p q = cc
+quot-lowered {b} p x k h = ap (_-ℤ k) (signed (x +ℤ k *ℤ pos b) h) ∙ floor-back p x k
+  where
+    signed : (u : ℤ) → pos 0 ≤ℤ u → quotZ u (pos b) ≡ floorDiv u b
+    signed (pos n) h = refl
+    signed (negsuc n) h = absurd (h .le)
 
-pub floor-above : (x d : ℤ) → ltZ (pos 0) d ≡ true → ltZ x (pos 0) ≡ false → quotZ x d ≡ floorDiv x (natAbs d)
+-- as unsigned ones
+floor-up : (d : ℤ) → pos 0 <ℤ d → (x : ℤ) → floorDiv (x +ℤ (d -ℤ pos 1)) (natAbs d) ≡ ceilDiv x (natAbs d)
+floor-up (pos zero) p x = absurd (p .lt)
+floor-up (pos (suc m)) p x = rw (-ℤ-one (pos (suc m)), ceil-raised (<-pos p) x m refl)
+floor-up (negsuc b) p x = absurd (p .lt)
+
+pub floor-lowered : (d : ℤ) → pos 0 <ℤ d → (x k : ℤ) → pos 0 ≤ℤ (x +ℤ k *ℤ d) → pos (natAbs (x +ℤ k *ℤ d) / natAbs d) -ℤ k ≡ floorDiv x (natAbs d)
 unfolding floorDiv
-floor-above (pos n) (pos b) p q = refl
-floor-above (pos n) (negsuc b) p q = cc
-floor-above (negsuc n) d p q = cc
+floor-lowered (pos b) p x k h = ap (_-ℤ k) (unsigned (x +ℤ k *ℤ pos b) h) ∙ floor-back (<-pos p) x k
+  where
+    unsigned : (u : ℤ) → pos 0 ≤ℤ u → pos (natAbs u / b) ≡ floorDiv u b
+    unsigned (pos n) h = refl
+    unsigned (negsuc n) h = absurd (h .le)
+floor-lowered (negsuc b) p x k h = absurd (p .lt)
 
-pub ceil-above : (x d : ℤ) → ltZ (pos 0) d ≡ true → ltZ (pos 0) x ≡ true → quotZ (x -ℤ pos 1) d +ℤ pos 1 ≡ ceilDiv x (natAbs d)
-unfolding ceilDiv floorDiv
-ceil-above (pos zero) d p q = cc
-ceil-above (pos (suc n)) (pos b) p q = rw (-ℤ-one (pos (suc n)), +ℤ-one (pos (n / b)))
-ceil-above (pos (suc n)) (negsuc b) p q = cc
-ceil-above (negsuc n) d p q = cc
-
-pub ceil-below : (x d : ℤ) → ltZ (pos 0) d ≡ true → ltZ (pos 0) x ≡ false → quotZ x d ≡ ceilDiv x (natAbs d)
-unfolding ceilDiv floorDiv
-ceil-below (pos zero) (pos b) p q = rw (zero-div b)
-ceil-below (pos zero) (negsuc b) p q = cc
-ceil-below (pos (suc n)) d p q = let f : ⊥ = omega (arith, ltb-false 0 (suc n) q) in absurd f
-ceil-below (negsuc n) (pos b) p q = refl
-ceil-below (negsuc n) (negsuc b) p q = cc
-
--- what fits; and what the quotients are, which are lists of their own since `search` rewrites by them
-pub ruleset dividing = (flip-fits, divisor-above, quot-fits, one-less-fits, one-more-fits)
-
-pub ruleset flooring = (floor-below, floor-above)
-
-pub ruleset ceiling = (ceil-above, ceil-below)
+-- rounded up: d − 1 more
+pub ceil-lowered : (d : ℤ) → pos 0 <ℤ d → (x k : ℤ) → pos 0 ≤ℤ (x +ℤ k *ℤ d)
+    → pos (natAbs (x +ℤ k *ℤ d +ℤ (d -ℤ pos 1)) / natAbs d) -ℤ k ≡ ceilDiv x (natAbs d)
+ceil-lowered d p x k h =
+    let e = d -ℤ pos 1 in
+    let turned : x +ℤ k *ℤ d +ℤ e ≡ x +ℤ e +ℤ k *ℤ d = ring ℤ-ring 3 (λ x s e. x :+ s :+ e := x :+ e :+ s) tt x (k *ℤ d) e in
+    let above : pos 0 ≤ℤ (x +ℤ k *ℤ d +ℤ e) = omega (ints, add-dif (x +ℤ k *ℤ d) e, sub-dif d (pos 1)) in
+    ap (λ z. pos (natAbs z / natAbs d) -ℤ k) turned ∙ floor-lowered d p (x +ℤ e) k (≤ℤ-trans above (≤ℤ-of-≡ turned)) ∙ floor-up d p x

@@ -11,22 +11,21 @@ use lib.Signed.{leZ, nonNeg, _≤ℤ_}
 use mir.Syntax.{w8, w32, w64}
 use mir.Val.{Fits, SFits, toZ, ofZ}
 use mir.ValLaws.{toZ-ofZ, toZ-pos}
-use Rattle.algebra.proofs.Int.{ints, neg-dif, neg-abs, add-abs, mul-abs}
+use Rattle.algebra.proofs.Int.{ints, neg-dif, neg-abs, add-abs, within-abs, mul-abs}
 use Rattle.exact.proofs.Machine.{fits-abs}
 use Rattle.range.specs.declared.Range.{Range}
 use Rattle.range.specs.Limit.{least, most, fromTo, over, isValid, bothValid, kept}
-use Rattle.range.specs.Arithmetic.{sumOf, endsNeg, negOf, endsHull, hullOf}
+use Rattle.range.specs.Arithmetic.{sumOf, endsNeg, negOf, spreadOf, endsHull, hullOf}
 use Rattle.range.specs.Steps.{Small}
 use Rattle.range.proofs.Valid.{T-true, true-T, and-left, and-right, ends-of, valid-of, both-left}
 use Rattle.range.proofs.Valid.{both-right, kept-is, sticky₁-is, sticky₂-is, not-true, and-false, over-invalid}
-use Rattle.range.proofs.Extremes.{lesser-left, lesser-any, greater-left, greater-any}
+use Rattle.range.proofs.Extremes.{lesser-left, lesser-any, greater-left, greater-any, least-product, greatest-product}
 
 abbrev pub InLimit : ℤ → Type 0
 InLimit z = natAbs z ≤ 2000000000
 
 pub in-limit : (z : ℤ) → least ≤ℤ z → z ≤ℤ most → InLimit z
-in-limit (pos n) l h = omega ints
-in-limit (negsuc n) l h = omega ints
+in-limit = within-abs 2000000000
 
 module _ (r : Range) (v : isValid r ≡ true) where
   pub low-within : InLimit (r .low)
@@ -55,8 +54,23 @@ module _ (a b : Range) (p : Small a) (q : Small b) where
 pub neg-fits : (x : ℤ) → InLimit x → SFits w64 (negℤ x)
 neg-fits x h = fits-abs (negℤ x) (omega (arith, neg-abs x))
 
+abbrev Few : ℤ → Type 0
+Few z = natAbs z ≤ 4000000000000000000
+
+product-few : (x y : ℤ) → InLimit x → InLimit y → Few (x *ℤ y)
+product-few x y h k = omega (arith, mul-abs x y, mul-le-mul h k)
+
 pub product-fits : (x y : ℤ) → InLimit x → InLimit y → SFits w64 (x *ℤ y)
-product-fits x y h k = fits-abs (x *ℤ y) (omega (arith, mul-abs x y, mul-le-mul h k))
+product-fits x y h k = fits-abs (x *ℤ y) (omega (arith, product-few x y h k))
+
+-- the least and the greatest of four products
+pub spread-small : (a b : Range) → isValid a ≡ true → isValid b ≡ true → Small (spreadOf a b)
+spread-small a b v w =
+    let ll = product-few (a .low) (b .low) (low-within a v) (low-within b w) in
+    let lh = product-few (a .low) (b .high) (low-within a v) (high-within b w) in
+    let hl = product-few (a .high) (b .low) (high-within a v) (low-within b w) in
+    let hh = product-few (a .high) (b .high) (high-within a v) (high-within b w) in
+    record { low = least-product a b Few ll lh hl hh; high = greatest-product a b Few ll lh hl hh }
 
 -- of two valid ranges, each is. s is the flag that a test of both left
 module _ (s : Bool) (a b : Range) (e : s ≡ bothValid a b) (p : s ≡ true) where

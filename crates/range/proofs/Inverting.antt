@@ -1,38 +1,65 @@
 -- The inverse by the sign of its operand, as the code takes it: above 0, below 0, or none where the range holds 0. Assumes nothing.
-use mathlib.Core.Path.{_≡_, refl, _∙_, sym, ap, ap₂}
+use mathlib.Core.Path.{_≡_, refl, _∙_, sym, ap, ap₂, subst}
 use mathlib.Core.Logic.{inl, inr}
 use mathlib.Core.Bool.{Bool, true, false, not, _&&_}
 use Prim.Native.Nat.{ℕ}
 use lib.Dec.{T}
-use lib.IntN.{ℤ, pos, negsuc, negℤ, natAbs}
+use lib.IntN.{ℤ, pos, negsuc, negℤ, natAbs, negℤ-negℤ}
 use lib.Signed.{leZ, ltZ, _≤ℤ_, _<ℤ_, ltZ-yes, ltZ-no, leZ-yes, clashℤ}
-use Rattle.algebra.proofs.Int.{ints, neg-dif, leZ-no}
+use Rattle.algebra.proofs.Int.{ints, neg-dif, add-dif, leZ-no}
 use Rattle.exact.proofs.Div.{floorDiv, ceilDiv, floorQuot, ceilQuot, bySign, OneSign}
 use Rattle.range.specs.declared.Range.{Range}
 use Rattle.range.specs.Limit.{fromTo, over, isValid, kept, sticky₁}
-use Rattle.range.specs.Arithmetic.{holdsZero, endsInverse, inverseOf}
-use Rattle.range.specs.Steps.{invAbove, invBelow}
+use Rattle.range.specs.Arithmetic.{endsNeg, negOf, holdsZero, endsInverse, inverseOf}
+use Rattle.range.specs.Steps.{Shiftable, endsOver, invAbove, invBelow}
 use Rattle.range.proofs.Valid.{T-true, true-T, not-true, false-T, and-both, and-false, by-test, ends-of, if-passed}
+use Rattle.range.proofs.Fitting.{neg-valid, negOf-is, negOf-over}
+use Rattle.range.proofs.Shifting.{unshifted}
 
 -- an order, as its test
 pub less-true : (a b : ℤ) → a <ℤ b → ltZ a b ≡ true
 less-true a b h = T-true (h .lt)
 
--- the ends of a range above 0 are above 0, and so are those of one below 0 with their signs changed
+-- the ends of a range above 0 divide 100,000,000, which no shift is needed for
 module _ (r : Range) (v : isValid r ≡ true) where
-  pub high-above : ltZ (pos 0) (r .low) ≡ true → ltZ (pos 0) (r .high) ≡ true
+  high-above : ltZ (pos 0) (r .low) ≡ true → ltZ (pos 0) (r .high) ≡ true
   high-above p = let e = ends-of r (true-T v) in let q : pos 0 <ℤ r .low = ltZ-yes (true-T p) in less-true (pos 0) (r .high) (omega ints)
 
-  pub neg-low-above : ltZ (r .high) (pos 0) ≡ true → ltZ (pos 0) (negℤ (r .low)) ≡ true
-  neg-low-above p =
+  pub low-divides : ltZ (pos 0) (r .low) ≡ true → Shiftable (pos 100000000) (r .low) (pos 0)
+  low-divides p =
       let e = ends-of r (true-T v) in
-      let q : r .high <ℤ pos 0 = ltZ-yes (true-T p) in
-      less-true (pos 0) (negℤ (r .low)) (omega (ints, neg-dif (r .low)))
+      unshifted 100000000 (r .low) (ltZ-yes (true-T p)) (omega (ints, add-dif (pos 100000000) (r .low)))
+
+  pub high-divides : ltZ (pos 0) (r .low) ≡ true → Shiftable (pos 100000000) (r .high) (pos 0)
+  high-divides p =
+      let e = ends-of r (true-T v) in
+      unshifted 100000000 (r .high) (ltZ-yes (true-T (high-above p))) (omega (ints, add-dif (pos 100000000) (r .high)))
 
 pub neg-above : (x : ℤ) → ltZ x (pos 0) ≡ true → ltZ (pos 0) (negℤ x) ≡ true
 neg-above x p = let q : x <ℤ pos 0 = ltZ-yes (true-T p) in less-true (pos 0) (negℤ x) (omega (ints, neg-dif x))
 
-pub ruleset inverting = (high-above, neg-low-above, neg-above)
+pub ruleset inverting = (low-divides, high-divides, neg-above)
+
+-- ---- a range below 0: its signs are changed, and those of the inverse
+neg-kept : (r : Range) → negOf (kept r) ≡ kept (endsNeg r)
+unfolding kept
+neg-kept r = go (isValid r) refl
+  where
+    twice : isValid (endsNeg (endsNeg r)) ≡ isValid r
+    twice = ap₂ (λ l h. isValid (fromTo l h)) (negℤ-negℤ (r .low)) (negℤ-negℤ (r .high))
+
+    none : isValid r ≡ false → isValid (endsNeg r) ≡ false
+    none v = not-true (λ t. subst T (twice ∙ v) (true-T (neg-valid (endsNeg r) (T-true t))))
+
+    go : (t : Bool) → isValid r ≡ t → negOf (kept r) ≡ kept (endsNeg r)
+    go true v = rw (v, neg-valid r v) (negOf-is r v)
+    go false v = rw (v, none v) negOf-over
+
+pub inverse-negated : (a : Range) → negOf (invAbove (endsNeg a)) ≡ invBelow a
+unfolding ceilDiv
+inverse-negated a =
+    neg-kept (endsOver (pos 100000000) (fromTo (negℤ (a .low)) (negℤ (a .high))))
+    ∙ ap (λ z. kept (fromTo z (ceilDiv (negsuc 99999999) (natAbs (negℤ (a .low)))))) (negℤ-negℤ (floorDiv (negsuc 99999999) (natAbs (negℤ (a .high)))))
 
 -- ---- a quotient by an end of either sign is one by a magnitude
 module _ (div : ℤ → ℕ → ℤ) (n : ℤ) where

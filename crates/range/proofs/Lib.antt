@@ -7,9 +7,10 @@ pub mod SumOver
 -- powers: D and U; the rows of 01's table as two forms
 pub mod Powers
 pub mod PowerForms
--- what the proofs of the functions use: fits, ranges of 0 alone, the inverse by sign, powers by products, the root, ranges in a list of
--- numbers; loops over a mask, and the sums that they make
+-- what the proofs of the functions use: fits, division by a shift, ranges of 0 alone, the inverse by sign, powers by products, the root, ranges in
+-- a list of numbers; loops over a mask, and the sums that they make
 pub mod Fitting
+pub mod Shifting
 pub mod Zeros
 pub mod Inverting
 pub mod Climbing
@@ -35,6 +36,8 @@ pub mod Rounding
 -- the ends without a limit, which refusal 12 is held against
 pub mod Ordered
 pub mod Unlimited
+-- the limit tested before a division
+pub mod ScaledWithin
 -- specs/Inclusion, and its weighted form `Bounded`, for values, gradients and spectra
 pub mod Holds
 pub mod Scaled

@@ -5,18 +5,18 @@ use mathlib.Core.List.{List, [], _∷_, _++_, List·Memᴰ, List·Memᴰ·not-ni
 use mathlib.Core.Logic.{⊎-elim}
 use Prim.Native.Nat.{ℕ, zero, suc, zero-le}
 use lib.Dec.{T, eqb}
-use lib.IntN.{ℤ, pos, negℤ, _*ℤ_}
+use lib.IntN.{ℤ, pos, negℤ}
 use lib.Signed.{leZ, _≤ℤ_, _<ℤ_, ≤ℤ-refl, leZ-yes}
 use Rattle.algebra.proofs.Ordered as Ord
 use Rattle.algebra.proofs.Int.{ints, ℤ-ordered, neg-dif, +ℤ-mono, neg-anti, pos-≤, ≤ℤ-trans, leZ-no, <ℤ→≤ℤ}
 use Rattle.exact.proofs.Div.{ceil-mono, floor≤ceil}
 use Rattle.range.specs.declared.Range.{Range}
-use Rattle.range.specs.Arithmetic.{greaterOf, leastProduct, endsSum, endsNeg, endsTimes, endsProduct, endsInverse, endsHull, holdsZero}
+use Rattle.range.specs.Arithmetic.{greaterOf, endsSum, endsNeg, endsTimes, spreadOf, scaledOf, endsProduct, endsInverse, endsHull, holdsZero}
 use Rattle.range.specs.Power.{D, U, isEven, endsPow, ups, upsOf}
 use Rattle.range.specs.Sums.{at, endsProducts, endsSquares, rootSum, endsRoot}
 use Rattle.range.specs.Steps.{upTo}
 use Rattle.range.proofs.Valid.{true-T, false-T}
-use Rattle.range.proofs.Extremes.{extremes, lesser-left, greater-left}
+use Rattle.range.proofs.Extremes.{end-products, lesser-left, greater-left}
 use Rattle.range.proofs.Powers.{ten-thousand, chain-low, chain-high, down-up, up-up}
 use Rattle.range.proofs.Climbing.{neg-above}
 use Rattle.exact.proofs.Div.{floorQuot≤ceilQuot}
@@ -36,11 +36,15 @@ neg-ordered u o = neg-anti o
 pub times-ordered : (k : ℕ) (u : Range) → Ordered u → Ordered (endsTimes k u)
 times-ordered k u o = Ord.mul-le-left ℤ-ordered (pos-≤ zero-le) o
 
+pub spread-ordered : (u v : Range) → Ordered (spreadOf u v)
+spread-ordered u v = let e = end-products u v in ≤ℤ-trans (e .low-1) (e .high-1)
+
+pub scaled-ordered : (u : Range) → Ordered u → Ordered (scaledOf u)
+scaled-ordered u o = ≤ℤ-trans (floor≤ceil (u .low) ten-thousand) (ceil-mono ten-thousand o)
+
 pub product-ordered : (u v : Range) → Ordered (endsProduct u v)
 unfolding endsProduct
-product-ordered u v =
-    let e = extremes (u .low *ℤ v .low) (u .low *ℤ v .high) (u .high *ℤ v .low) (u .high *ℤ v .high) in
-    ≤ℤ-trans (floor≤ceil (leastProduct u v) ten-thousand) (ceil-mono ten-thousand (≤ℤ-trans (e .low-1) (e .high-1)))
+product-ordered u v = scaled-ordered (spreadOf u v) (spread-ordered u v)
 
 pub hull-ordered : (u v : Range) → Ordered u → Ordered v → Ordered (endsHull u v)
 hull-ordered u v o w = ≤ℤ-trans (lesser-left (u .low) (v .low)) (≤ℤ-trans o (greater-left (u .high) (v .high)))

@@ -10,7 +10,7 @@ use lib.Signed.{nonNeg, _≤ℤ_}
 use mir.Syntax.{w64}
 use mir.Val.{Fits, SFits, toZ, ofZ}
 use mir.ValLaws.{toZ-ofZ}
-use Rattle.algebra.proofs.Int.{ints, neg-abs, add-abs, mul-abs}
+use Rattle.algebra.proofs.Int.{ints, neg-abs, add-abs, within-abs, mul-abs}
 use Rattle.exact.specs.Div.{floorDiv, ceilDiv}
 use Rattle.exact.proofs.Machine.{fits-abs}
 use Rattle.range.specs.declared.Range.{Range}
@@ -26,18 +26,14 @@ use Rattle.range.proofs.StarLaws.{halfSpan, half-span}
 abbrev pub InHalf : ℤ → Type 0
 InHalf z = natAbs z ≤ 1000000000
 
-in-half : (z : ℤ) → negsuc 999999999 ≤ℤ z → z ≤ℤ pos 1000000000 → InHalf z
-in-half (pos n) l h = omega ints
-in-half (negsuc n) l h = omega ints
-
 module _ (r : Range) (v : isHalf r ≡ true) where
   pub half-low : InHalf (r .low)
   unfolding halfSpan
-  half-low = let w = half-span r (true-T v) in in-half (r .low) (w .low) (omega (ints, w .order, w .high))
+  half-low = let w = half-span r (true-T v) in within-abs 1000000000 (r .low) (w .low) (omega (ints, w .order, w .high))
 
   pub half-high : InHalf (r .high)
   unfolding halfSpan
-  half-high = let w = half-span r (true-T v) in in-half (r .high) (omega (ints, w .low, w .order)) (w .high)
+  half-high = let w = half-span r (true-T v) in within-abs 1000000000 (r .high) (omega (ints, w .low, w .order)) (w .high)
 
   pub minus-low-fits : SFits w64 (negℤ (r .low))
   minus-low-fits = neg-fits (r .low) (omega (arith, half-low))
@@ -134,13 +130,19 @@ module _ (a b : ℤ) (p : InHalf a) (q : InHalf b) where
   ends-fit = fits-abs (a +ℤ b) (omega (arith, sum-few))
 
   module _ (r : ℤ) (s : natAbs r ≤ 3000000000) where
+    pub less-root-few : natAbs (a +ℤ b -ℤ r) ≤ 5000000000
+    less-root-few = omega (arith, add-abs (a +ℤ b) (negℤ r), neg-abs r, sum-few)
+
     pub less-root-fits : SFits w64 (a +ℤ b -ℤ r)
-    less-root-fits = fits-abs _ (omega (arith, add-abs (a +ℤ b) (negℤ r), neg-abs r, sum-few))
+    less-root-fits = fits-abs _ (omega (arith, less-root-few))
+
+    pub more-root-few : natAbs (a +ℤ b +ℤ r) ≤ 5000000000
+    more-root-few = omega (arith, add-abs (a +ℤ b) r, sum-few)
 
     pub more-root-fits : SFits w64 (a +ℤ b +ℤ r)
-    more-root-fits = fits-abs _ (omega (arith, add-abs (a +ℤ b) r, sum-few))
+    more-root-fits = fits-abs _ (omega (arith, more-root-few))
 
-pub ruleset halving = (ends-fit, less-root-fits, more-root-fits)
+pub ruleset halving = (ends-fit, less-root-few, less-root-fits, more-root-few, more-root-fits)
 
 -- and what they are, r being the root of the numbers as they are passed on
 module _ (a b m : ℤ) (p : InHalf a) (q : InHalf b) (h : InHalf m) (r : ℤ) (k : natAbs r ≤ 3000000000)

@@ -1,21 +1,30 @@
 -- What private functions give, end by end, on the way to an operation of 01.
 use mathlib.Core.Path.{_≡_}
-use mathlib.Core.Bool.{Bool, true, false, _&&_}
+use mathlib.Core.Bool.{Bool, true, false, _&&_, cond}
 use Prim.Native.Nat.{ℕ, _+_, _*_, _/_, _%_, _≤_}
 use lib.Dec.{eqb}
-use lib.IntN.{ℤ, pos, negsuc, negℤ, natAbs, _*ℤ_}
-use lib.Signed.{leZ}
+use lib.IntN.{ℤ, pos, negsuc, negℤ, natAbs, _+ℤ_, _*ℤ_}
+use lib.Signed.{leZ, _≤ℤ_, _<ℤ_}
 use Rattle.exact.specs.Sqrt.{ceilSqrt}
 use Rattle.exact.specs.Div.{floorDiv, ceilDiv}
 use Rattle.range.specs.declared.Range.{Range}
 use Rattle.range.specs.declared.sums.Squares.{Squares}
-use Rattle.range.specs.Limit.{fromTo, isValid, kept}
-use Rattle.range.specs.Arithmetic.{lesserOf, greaterOf}
+use Rattle.range.specs.Limit.{least, most, fromTo, over, isValid, kept}
+use Rattle.range.specs.Arithmetic.{lesserOf, greaterOf, scaledOf}
 
 -- ends of which two have a sum that fits
 pub record Small (r : Range) : Type 0 where
   pub low : natAbs (r .low) ≤ 4000000000000000000
   pub high : natAbs (r .high) ≤ 4000000000000000000
+
+-- What a division asks that raises its dividend x by k times the divisor d, and lowers the quotient by k (02, request 8: "a shift of the dividend by
+-- a fixed multiple of the divisor"): the raised dividend is not below 0, and nothing on the way passes 9·10^18, which 63 bits hold.
+pub record Shiftable (x d k : ℤ) : Type 0 where
+  pub divisor : pos 0 <ℤ d
+  pub times : pos 0 ≤ℤ k
+  pub shift : (k *ℤ d) ≤ℤ pos 9000000000000000000
+  pub above : pos 0 ≤ℤ (x +ℤ k *ℤ d)
+  pub below : (x +ℤ k *ℤ d +ℤ d) ≤ℤ pos 9000000000000000000
 
 -- k times each end, and two ends in order
 abbrev pub endsBy : ℤ → Range → Range
@@ -23,6 +32,12 @@ endsBy k a = fromTo (k *ℤ a .low) (k *ℤ a .high)
 
 abbrev pub sortedOf : Range → Range
 sortedOf r = fromTo (lesserOf (r .low) (r .high)) (greaterOf (r .low) (r .high))
+
+-- ends in order, divided by 10,000, outward, if they are within 10,000 times the limit: exactly then the quotients are within the limit
+-- (`scaled-within`)
+unfoldable pub scaledWithin : Range → Range
+scaledWithin r =
+    cond (leZ (least *ℤ pos 10000) (r .low) && (leZ (r .low) (r .high) && leZ (r .high) (most *ℤ pos 10000))) (scaledOf r) over
 
 -- n divided by each end, outward, for ends above 0
 abbrev pub endsOver : ℤ → Range → Range

@@ -10,7 +10,7 @@ ghost use Rattle.exact.specs.Div.{floorDiv, ceilDiv};
 ghost use Rattle.range.specs.Limit.{fromTo, isValid, bothValid, kept};
 ghost use Rattle.range.specs.Arithmetic.{lesserOf, greaterOf, endsSum, sumOf, endsNeg, negOf, timesOf};
 ghost use Rattle.range.specs.Arithmetic.{spreadOf, scaledOf, endsProduct, productOf, inverseOf, endsHull, hullOf};
-ghost use Rattle.range.specs.Steps.{Small, endsBy, sortedOf, endsOver, invAbove, invBelow, upTo, isZero};
+ghost use Rattle.range.specs.Steps.{Small, Shiftable, endsBy, sortedOf, scaledWithin, endsOver, invAbove, invBelow, upTo, isZero};
 
 mod power; // power.rt: the power of a range
 mod root; // root.rt: square roots, rounded up
@@ -19,6 +19,12 @@ mod sums; // sums.rt: sums over the factors of a set
 
 // "The limit is 2,000,000,000 units, either sign."
 const LIMIT: i64 = 2_000_000_000;
+
+// What 10,000 divides to the limit.
+const DIVIDEND_LIMIT: i64 = 10_000 * LIMIT;
+
+// What 10,000 divides the greatest product to, that of the limit with itself.
+const PRODUCT_SHIFT: i64 = LIMIT / 10_000 * LIMIT;
 
 pub struct Range {
     pub low: i64,
@@ -37,20 +43,21 @@ fn greater(x: i64, y: i64) -> i64
     if x <= y { y } else { x }
 }
 
-// x / d, rounded toward minus infinity. −1 − x exchanges n and −(n + 1).
-fn floor_div(x: i64, d: i64) -> i64
-    requires { ⌜ ltZ (pos 0) d ≡ true ⌝ }
+// x / d, rounded toward minus infinity, without a branch on the sign of x: the dividend is raised by k times the divisor, so that it is not below 0, and the
+// quotient is lowered by k. It is divided as an unsigned number, which by a divisor that the compiler knows is a multiplication and a shift.
+fn floor_div(x: i64, d: i64, k: i64) -> i64
+    requires { ⌜ Shiftable x d k ⌝ }
     ensures { λ r. ⌜ r ≡ floorDiv x (natAbs d) ⌝ }
 {
-    if x < 0 { -1 - (-1 - x) / d } else { x / d }
+    ((x + k * d) as u64 / d as u64) as i64 - k
 }
 
-// x / d, rounded toward plus infinity.
-fn ceil_div(x: i64, d: i64) -> i64
-    requires { ⌜ ltZ (pos 0) d ≡ true ⌝ }
+// x / d, rounded toward plus infinity, which is down from d − 1 more.
+fn ceil_div(x: i64, d: i64, k: i64) -> i64
+    requires { ⌜ Shiftable x d k ⌝ }
     ensures { λ r. ⌜ r ≡ ceilDiv x (natAbs d) ⌝ }
 {
-    if 0 < x { (x - 1) / d + 1 } else { x / d }
+    ((x + k * d + (d - 1)) as u64 / d as u64) as i64 - k
 }
 
 impl Range {
@@ -199,13 +206,30 @@ impl Range {
         }
     }
 
-    // Divided by 10,000, outward.
-    pub fn scaled(self) -> Range
+    // Divided by 10,000, outward: the end products of two ranges.
+    fn scaled(self) -> Range
+        requires { ⌜ Small self ⌝ }
         ensures { λ r. ⌜ r ≡ scaledOf self ⌝ }
     {
         Range {
-            low: floor_div(self.low, 10_000),
-            high: ceil_div(self.high, 10_000),
+            low: floor_div(self.low, 10_000, PRODUCT_SHIFT),
+            high: ceil_div(self.high, 10_000, PRODUCT_SHIFT),
+        }
+    }
+
+    // Divided by 10,000, outward, if that is within the limit. It is tested before the division, so that no dividend is farther below 0 than 2·10^13.
+    pub fn scaled_within(self) -> Range
+        ensures { λ r. ⌜ r ≡ scaledWithin self ⌝ }
+    {
+        if (-DIVIDEND_LIMIT <= self.low)
+            & ((self.low <= self.high) & (self.high <= DIVIDEND_LIMIT))
+        {
+            Range {
+                low: floor_div(self.low, 10_000, LIMIT),
+                high: ceil_div(self.high, 10_000, LIMIT),
+            }
+        } else {
+            Range::OVER
         }
     }
 
@@ -260,15 +284,15 @@ impl Range {
         }
     }
 
-    // n divided by each end, outward.
+    // n divided by each end, outward. n is not below 0, so that nothing is added.
     fn ends_over(self, n: i64) -> Range
-        requires { ⌜ ltZ (pos 0) (self .low) ≡ true ⌝ }
-        requires { ⌜ ltZ (pos 0) (self .high) ≡ true ⌝ }
+        requires { ⌜ Shiftable n (self .low) (pos 0) ⌝ }
+        requires { ⌜ Shiftable n (self .high) (pos 0) ⌝ }
         ensures { λ r. ⌜ r ≡ endsOver n self ⌝ }
     {
         Range {
-            low: floor_div(n, self.low),
-            high: ceil_div(n, self.high),
+            low: floor_div(n, self.low, 0),
+            high: ceil_div(n, self.high, 0),
         }
     }
 
@@ -285,13 +309,13 @@ impl Range {
         by.ends_over(100_000_000).kept()
     }
 
-    // The inverse of a range below 0: dividend and divisor change sign.
+    // The inverse of a range below 0: that of the range with its signs changed, with its signs changed. So no dividend is below 0.
     fn inverse_below(self) -> Range
         requires { ⌜ isValid self ≡ true ⌝ }
         requires { ⌜ ltZ (self .high) (pos 0) ≡ true ⌝ }
         ensures { λ r. ⌜ r ≡ invBelow self ⌝ }
     {
-        self.ends_negated().ends_over(-100_000_000).kept()
+        self.ends_negated().inverse_above().negated()
     }
 
     fn inverse_by_sign(self) -> Range

@@ -28,16 +28,21 @@ fn star_root(a: i64, b: i64, m: i64) -> i64
     root_up((d * d + 4 * (m * m)) as u64) as i64
 }
 
+// Two ends and R come to 5,000,000,000 at the most, either sign; twice this is more.
+const SHIFT: i64 = 3_000_000_000;
+
 fn half_down(x: i64) -> i64
+    requires { ⌜ natAbs x ≤ 5000000000 ⌝ }
     ensures { λ r. ⌜ r ≡ floorDiv x 2 ⌝ }
 {
-    floor_div(x, 2)
+    floor_div(x, 2, SHIFT)
 }
 
 fn half_up(x: i64) -> i64
+    requires { ⌜ natAbs x ≤ 5000000000 ⌝ }
     ensures { λ r. ⌜ r ≡ ceilDiv x 2 ⌝ }
 {
-    ceil_div(x, 2)
+    ceil_div(x, 2, SHIFT)
 }
 
 // Half of a + b − R, rounded down.

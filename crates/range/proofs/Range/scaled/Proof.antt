@@ -1,23 +1,22 @@
 -- `range::Range::scaled` meets its contract. Assumes nothing.
 use borrow.Author.Needs.{needs}
-use mathlib.Core.Path.{_≡_}
-use lib.IntN.{ℤ}
-use mir.Syntax.{w64}
-use mir.Val.{SFits, toZ, ofZ}
-use mir.ValLaws.{toZ-ofZ}
-use Rattle.exact.proofs.Div.{floorDiv, ceilDiv}
-use Rattle.range.specs.Limit.{fromTo}
+use lib.Dec.{lit<, lit≤}
+use Rattle.range.proofs.Shifting.{shiftable, ends-divided}
 use Rattle.range.proofs.Range.scaled.Statement.{statement}
 use Rattle.range.proofs.Range.scaled.Tie as tie
 
--- the quotients are of ends that are passed on, and are read back
-read : {a b l h : ℤ} → SFits w64 a → SFits w64 b → SFits w64 l → SFits w64 h
-    → l ≡ floorDiv (toZ w64 (ofZ w64 a)) 10000 → h ≡ ceilDiv (toZ w64 (ofZ w64 b)) 10000
-    → fromTo (toZ w64 (ofZ w64 l)) (toZ w64 (ofZ w64 h)) ≡ fromTo (floorDiv a 10000) (ceilDiv b 10000)
-read {a} {b} {l} {h} p q f g d e = rw (toZ-ofZ w64 l f, toZ-ofZ w64 h g, d, e, toZ-ofZ w64 a p, toZ-ofZ w64 b q)
+floor-div-requires : tie.Need-floor-div-requires
+floor-div-requires c κs =
+    let start = c .before in
+    shiftable (start .args .self .low) 10000 400000000000000 (lit< tt) (start .pre .low) (lit≤ tt)
+
+ceil-div-requires : tie.Need-ceil-div-requires
+ceil-div-requires c κs =
+    let start = c .before .before .before in
+    shiftable (start .args .self .high) 10000 400000000000000 (lit< tt) (start .pre .high) (lit≤ tt)
 
 returns : tie.Need-returns
-returns c = search (needs, read)
+returns c = search (needs, ends-divided)
 
 pub scaled-spec : {M : Type 1} → statement M
-scaled-spec = tie.close (tie.spec (λ c κs. search needs) (λ c κs. search needs) returns)
+scaled-spec = tie.close (tie.spec floor-div-requires ceil-div-requires returns)

@@ -13,6 +13,9 @@ add-half-up c = search (needs, halving)
 add-half-up-2 : tie.Need-add-half-up-2
 add-half-up-2 c = search (needs, halving, c .star-root .ensures .1)
 
+half-up-requires : tie.Need-half-up-requires
+half-up-requires c κs = search (needs, halving, c .star-root .ensures .1)
+
 returns : tie.Need-returns
 returns c =
     let root = c .before .star-root in
@@ -23,4 +26,4 @@ returns c =
     read (c .half-up .result) (search needs) (c .half-up .ensures ∙ ap (λ z. ceilDiv z 2) made)
 
 pub high-end-spec : {M : Type 1} → statement M
-high-end-spec = tie.close (tie.spec add-half-up (λ c κs. search needs) add-half-up-2 (λ c κs. search needs) returns)
+high-end-spec = tie.close (tie.spec add-half-up (λ c κs. search needs) add-half-up-2 half-up-requires returns)

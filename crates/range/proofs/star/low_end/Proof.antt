@@ -13,6 +13,9 @@ add-half-down c = search (needs, halving)
 sub-half-down : tie.Need-sub-half-down
 sub-half-down c = search (needs, halving, c .star-root .ensures .1)
 
+half-down-requires : tie.Need-half-down-requires
+half-down-requires c κs = search (needs, halving, c .star-root .ensures .1)
+
 returns : tie.Need-returns
 returns c =
     let root = c .before .star-root in
@@ -23,4 +26,4 @@ returns c =
     read (c .half-down .result) (search needs) (c .half-down .ensures ∙ ap (λ z. floorDiv z 2) made)
 
 pub low-end-spec : {M : Type 1} → statement M
-low-end-spec = tie.close (tie.spec add-half-down (λ c κs. search needs) sub-half-down (λ c κs. search needs) returns)
+low-end-spec = tie.close (tie.spec add-half-down (λ c κs. search needs) sub-half-down half-down-requires returns)
