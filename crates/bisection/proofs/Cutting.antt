@@ -1,19 +1,15 @@
 -- The width and the middle of a valid range, as an `i64` works them out: each step fits. Assumes nothing.
 use mathlib.Core.Path.{_≡_, refl, sym, ap, _∙_}
 use mathlib.Core.Bool.{true}
-use Prim.Native.Nat.{_/_}
-use native.Mathlib.Nat as N
 use native.Mathlib.Omega.{arith}
 use lib.Dec.{lit<}
-use lib.IntN.{ℤ, pos, negsuc, negℤ, _+ℤ_, _-ℤ_}
+use lib.IntN.{ℤ, pos, negℤ, _+ℤ_, _-ℤ_}
 use lib.Signed.{quotZ, _≤ℤ_}
 use mir.Syntax.{w64}
 use mir.Val.{SFits, toZ, ofZ}
 use mir.ValLaws.{toZ-ofZ}
-use Rattle.algebra.proofs.Int.{ints, add-dif, sub-dif, mul-pos-dif, add-abs, neg-abs, ≤ℤ-trans}
-use Rattle.exact.specs.Div.{floorDiv}
-use Rattle.exact.proofs.Div.{floor-le, floor-lt}
-use Rattle.exact.proofs.Machine.{fits-abs, quot-fits}
+use Rattle.algebra.proofs.Int.{ints, add-dif, add-abs, neg-abs, ≤ℤ-trans}
+use Rattle.exact.proofs.Machine.{fits-abs, quot-fits, quot-lowered}
 use Rattle.range.specs.declared.Range.{Range}
 use Rattle.range.specs.Limit.{isValid}
 use Rattle.range.proofs.Fitting.{in-limit, low-within, high-within}
@@ -60,27 +56,7 @@ module _ (r : Range) (v : isValid r ≡ true) where
 
   pub middle-is : quotZ raised (pos 2) -ℤ pos 2000000000 ≡ cutPoint r
   unfolding cutPoint
-  middle-is = go raised refl raised-above
-    where
-      s : ℤ
-      s = r .low +ℤ r .high
-
-      go : (u : ℤ) → u ≡ s +ℤ pos 4000000000 → pos 0 ≤ℤ u → quotZ u (pos 2) -ℤ pos 2000000000 ≡ floorDiv s 2
-      go (pos k) e h =
-          let q = floorDiv s 2 in
-          omega (
-            ints,
-            N.div-mul-le-self k 2,
-            N.lt-div-mul-add {a = k} {b = 2} (lit< tt),
-            sub-dif (pos (k / 2)) (pos 2000000000),
-            add-dif s (pos 4000000000),
-            floor-le s {d = 2} (lit< tt),
-            floor-lt s {d = 2} (lit< tt),
-            mul-pos-dif q 2,
-            mul-pos-dif (q +ℤ pos 1) 2,
-            add-dif q (pos 1),
-          )
-      go (negsuc k) e h = absurd (omega ints)
+  middle-is = quot-lowered (lit< tt) (r .low +ℤ r .high) (pos 2000000000) raised-above
 
   pub middle-fits : SFits w64 (quotZ raised (pos 2) -ℤ pos 2000000000)
   middle-fits =

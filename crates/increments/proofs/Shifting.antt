@@ -1,5 +1,5 @@
 -- Division by 10,000, rounded down, as an `i64` works it out of a dividend that is raised until it is not below 0: each step fits. Assumes nothing.
-use mathlib.Core.Path.{_≡_, refl, ap, _∙_}
+use mathlib.Core.Path.{_≡_, refl}
 use Prim.Native.Nat.{_≤_}
 use native.Mathlib.Nat as N
 use native.Mathlib.Omega.{arith}
@@ -9,22 +9,15 @@ use lib.Signed.{quotZ, _≤ℤ_}
 use mir.Syntax.{w64}
 use mir.Val.{SFits, toZ, ofZ}
 use mir.ValLaws.{toZ-ofZ}
-use Rattle.algebra.proofs.Int.{ints, ℤ-ring, add-dif, add-abs}
-use Rattle.algebra.proofs.Solver.{_:+_, _:-_, _:=_, ring}
+use Rattle.algebra.proofs.Int.{ints, add-dif, add-abs}
 use Rattle.exact.specs.Div.{floorDiv}
-use Rattle.exact.proofs.DivSum.{floor-shift}
-use Rattle.exact.proofs.Machine.{fits-abs, quot-fits}
+use Rattle.exact.proofs.Machine.{fits-abs, quot-fits, quot-lowered}
 
 -- a quotient is no larger than what is divided
 pub floor-abs : (x : ℤ) → natAbs (floorDiv x 10000) ≤ natAbs x
 unfolding floorDiv
 floor-abs (pos n) = N.div-le-self n 10000
 floor-abs (negsuc n) = omega (arith, N.div-le-self n 10000)
-
-divided : (u : ℤ) → pos 0 ≤ℤ u → quotZ u (pos 10000) ≡ floorDiv u 10000
-unfolding floorDiv
-divided (pos n) h = refl
-divided (negsuc n) h = absurd (h .le)
 
 -- ---- raised by 10^15, divided, and lowered by 10^11
 module _ (x : ℤ) (h : natAbs x ≤ 1000000000000000) where
@@ -54,9 +47,7 @@ module _ (x : ℤ) (h : natAbs x ≤ 1000000000000000) where
       go (negsuc n) h = omega (ints, add-dif (negsuc n) (pos 1000000000000000))
 
   pub floor-is : quotZ raised (pos 10000) -ℤ pos 100000000000 ≡ floorDiv x 10000
-  floor-is =
-      ap (_-ℤ pos 100000000000) (divided raised raised-above ∙ floor-shift {d = 10000} (lit< tt) x (pos 100000000000))
-      ∙ ring ℤ-ring 2 (λ f k. f :+ k :- k := f) tt (floorDiv x 10000) (pos 100000000000)
+  floor-is = quot-lowered (lit< tt) x (pos 100000000000) raised-above
 
   pub floor-fits : SFits w64 (floorDiv x 10000)
   floor-fits = fits-abs (floorDiv x 10000) (omega (arith, floor-abs x))
