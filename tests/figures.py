@@ -227,6 +227,31 @@ TIMES_ZERO = [
 ]
 
 
+def product(constant, value, low, high):
+    """A product of two numbers, and the ends that it is rounded to."""
+    return f"factors 1;mulc 1 {constant};box;{value} {value};", f"value {low} {high};slope 1 {constant} {constant};depends 1;bent;bend 0 0;full 0 0;"
+
+
+# 02, request 8: dividends about 0, about 10,000 and about 10,000 times the limit, and the greatest divisors.
+ROUNDED = [
+    ("dividend -20000000000001", "factors 1;mulc 1 125601;box;-159234401 -159234401;", "refused 12 2;"),
+    ("dividend -20000000000000", *product(10000, -2000000000, -2000000000, -2000000000)),
+    ("dividend -10001", *product(1, -10001, -2, -1)),
+    ("dividend -10000", *product(1, -10000, -1, -1)),
+    ("dividend -9999", *product(1, -9999, -1, 0)),
+    ("dividend -1", *product(1, -1, -1, 0)),
+    ("dividend 0", *product(1, 0, 0, 0)),
+    ("dividend 1", *product(1, 1, 0, 1)),
+    ("dividend 9999", *product(1, 9999, 0, 1)),
+    ("dividend 10000", *product(1, 10000, 1, 1)),
+    ("dividend 10001", *product(1, 10001, 1, 2)),
+    ("dividend 20000000000000", *product(10000, 2000000000, 2000000000, 2000000000)),
+    ("dividend 20000000000001", "factors 1;mulc 1 125601;box;159234401 159234401;", "refused 12 2;"),
+    ("divisor -2000000000", "factors 1;inv 1;box;-2000000000 -2000000000;", "value -1 0;slope 1 -1 0;depends 1;bent 1;bend -1 0;full -1 0;"),
+    ("divisor 2000000000", "factors 1;inv 1;box;2000000000 2000000000;", "value 0 1;slope 1 -1 0;depends 1;bent 1;bend 0 1;full 0 1;"),
+]
+
+
 def operand(first, v, g, e):
     """Lines from `first` on for v + g x + (e/2) x^2, where line 2 is x^2 and x is 0: its V, G and E are v, g and e. In the place of a term times 0
     stands x^3, of which all three are 0."""
@@ -287,7 +312,7 @@ ALONE = [
 
 FIGURES = [
     (name, text(given), text(expected))
-    for name, given, expected in STARRED + PRINTED + EDGES + READINGS + SQUARES + SPECIAL + TIMES_ZERO + ALONE]
+    for name, given, expected in STARRED + PRINTED + EDGES + READINGS + SQUARES + SPECIAL + TIMES_ZERO + ROUNDED + ALONE]
 
 LONGEST = "factors 1;" + "".join(f"addc {k} -2000000000;" for k in range(1, 64))
 

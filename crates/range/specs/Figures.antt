@@ -14,6 +14,7 @@ use Rattle.range.specs.Power.{chain, upsWithin, powAbove, powBelow, powA
 use Rattle.range.specs.Sums.{has, sumOver, validBelow, endsProducts, productsOf}
 use Rattle.range.specs.Sums.{largestSquare, squareSum, squaresOf, rootSum, rootOf}
 use Rattle.range.specs.Star.{magnitudeOf, starRoot, endsStar, isHalf, starOf}
+use Rattle.range.specs.Steps.{scaledWithin}
 
 record Figure : Type 0 where
   computed : Range
@@ -107,12 +108,35 @@ figures =
     ∷ (starOf (only (pos 1000000001)) zeroRange zeroRange gives over)
     ∷ (starOf zeroRange (only (− 1000000001)) zeroRange gives over)
     ∷ (starOf zeroRange zeroRange (only (− 1000000001)) gives over)
+    -- 02, request 8, "the same quotient for all dividends it can meet": dividends about 0, about 10,000 and about 10,000 times the limit; the greatest of a
+    -- product, either sign, in a sum of products; divisors of the inverse
+    ∷ (scaledWithin (only (− 20000000000001)) gives over)
+    ∷ (scaledWithin (only (− 20000000000000)) gives only (− 2000000000))
+    ∷ (scaledWithin (only (− 10001)) gives fromTo (− 2) (− 1))
+    ∷ (scaledWithin (only (− 10000)) gives only (− 1))
+    ∷ (scaledWithin (only (− 9999)) gives fromTo (− 1) (pos 0))
+    ∷ (scaledWithin (only (− 1)) gives fromTo (− 1) (pos 0))
+    ∷ (scaledWithin zeroRange gives zeroRange)
+    ∷ (scaledWithin (only (pos 1)) gives fromTo (pos 0) (pos 1))
+    ∷ (scaledWithin (only (pos 9999)) gives fromTo (pos 0) (pos 1))
+    ∷ (scaledWithin (only (pos 10000)) gives only (pos 1))
+    ∷ (scaledWithin (only (pos 10001)) gives fromTo (pos 1) (pos 2))
+    ∷ (scaledWithin (only (pos 20000000000000)) gives only (pos 2000000000))
+    ∷ (scaledWithin (only (pos 20000000000001)) gives over)
+    ∷ (scaledWithin over gives over)
+    ∷ (endsProducts 1 (two wholeRange zeroRange) (two wholeRange zeroRange) gives fromTo (− 400000000000000) (pos 400000000000000))
+    ∷ (productsOf 3 (two (only (pos 2000000000)) (only (− 2000000000))) (two (only (pos 2000000000)) (only (pos 2000000000))) gives zeroRange)
+    ∷ (inverseOf (only (− 2000000000)) gives fromTo (− 1) (pos 0))
+    ∷ (inverseOf (only (− 3)) gives fromTo (− 33333334) (− 33333333))
+    ∷ (inverseOf (only (− 1)) gives only (− 100000000))
+    ∷ (inverseOf (only (pos 3)) gives fromTo (pos 33333333) (pos 33333334))
+    ∷ (inverseOf (only (pos 2000000000)) gives fromTo (pos 0) (pos 1))
     ∷ []
 
 pub figures-hold : map (λ f. f .computed) figures ≡ map (λ f. f .expected) figures
 unfolding sumOf negOf timesOf endsProduct productOf endsInverse inverseOf hullOf
     powOf powBySign powAbove powBelow powAcross powAcrossEven powAcrossOdd chain upsWithin
     productsOf endsProducts squaresOf largestSquare squareSum rootOf rootSum sumOver has validBelow sumBelow
-    magnitudeOf starRoot endsStar isHalf starOf
+    magnitudeOf starRoot endsStar isHalf starOf scaledWithin
     isValid bothValid kept floorDiv ceilDiv floorQuot ceilQuot ceilSqrt floorSqrt rootBits
 figures-hold = refl
