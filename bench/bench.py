@@ -40,6 +40,7 @@ MOST_PER_BOAT = 1.1  # the bar: the time of a boat on a page, in plain ratings o
 DEPTHS = range(7)  # to which a class can be cut
 MOST_PER_PART = 1.25  # the bar: the time of a part, in plain ratings of the uncut class, by the geometric mean
 MOST_PER_PART_OF_A_CLASS = 1.5  # and on each class
+SIGNS = "signs"  # the sheet whose ranges change sign from line to line, which is in no mean
 STEPS = (1, 3, 7, 9, 11, 13, 17, 19)  # a factor each, none with a divisor in common with BOATS
 
 
@@ -168,14 +169,17 @@ def rating_tables(all_sheets, classes, engine, earlier, folder):
     plain = build(folder)
     by_lines = [sheet for sheet in all_sheets if sheet.stem.startswith("growth-lines-")]
     by_factors = [sheet for sheet in all_sheets if sheet.stem.startswith("growth-factors-")]
+    by_signs = [sheet for sheet in all_sheets if sheet.stem == SIGNS]
 
     if earlier:
         before = earlier.resolve()
         means(table("Beside the earlier build, nanoseconds per rating", classes, engine, before, "earlier"))
         fits(table("Beside the earlier build, growth with the factors", by_factors, engine, before, "earlier"), "factors", "earlier")
+        table("Beside the earlier build, ranges that change sign from line to line", by_signs, engine, before, "earlier")
     means(table("Classes, nanoseconds per rating", classes, engine, plain))
     fits(table("Growth with the lines, 4 factors", by_lines, engine, plain), "lines")
     fits(table("Growth with the factors, 32 lines", by_factors, engine, plain), "factors")
+    table("Ranges that change sign from line to line", by_signs, engine, plain)
 
     largest = max(classes, key=lambda sheet: shape(sheet)[::-1])
     print(f"\nPeak memory on {largest.stem}")
@@ -330,7 +334,7 @@ def main():
         parser.error("--pages and --cuts take no earlier build: it would have to know the fleet page, and the cut")
     engine = arguments.engine.resolve()
     all_sheets = sorted(SHEETS.glob("*.txt"), key=lambda sheet: (shape(sheet), sheet.stem))
-    classes = [sheet for sheet in all_sheets if not sheet.stem.startswith("growth-")]
+    classes = [sheet for sheet in all_sheets if not sheet.stem.startswith("growth-") and sheet.stem != SIGNS]
     with tempfile.TemporaryDirectory() as folder:
         if arguments.cuts:
             cut_table(classes, engine, folder)
