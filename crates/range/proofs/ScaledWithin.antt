@@ -3,19 +3,21 @@
 use mathlib.Core.Path.{_≡_, refl, sym, ap, ap₂, _∙_}
 use mathlib.Core.Bool.{Bool, true, false, _&&_, cond}
 use mathlib.Core.Logic.{_↔_}
-use Prim.Native.Nat.{_≤_}
-use lib.Dec.{T}
-use lib.IntN.{ℤ, pos, natAbs, _*ℤ_}
+use lib.Dec.{T, lit≤}
+use lib.IntN.{ℤ, pos, _*ℤ_}
 use lib.Signed.{leZ, _≤ℤ_, leZ-yes}
+use mir.Syntax.{w64}
+use mir.Val.{toZ, ofZ}
 use Rattle.algebra.proofs.Int.{≤ℤ-trans, within-abs}
 use Rattle.exact.proofs.Div.{floor-iff, ceil-iff}
 use Rattle.exact.proofs.Machine.{leZ-true}
 use Rattle.range.specs.declared.Range.{Range}
 use Rattle.range.specs.Limit.{least, most, over, isValid, kept}
 use Rattle.range.specs.Arithmetic.{scaledOf}
-use Rattle.range.specs.Steps.{scaledWithin}
+use Rattle.range.specs.Steps.{Shiftable, scaledWithin}
 use Rattle.range.proofs.Valid.{T-true, true-T}
 use Rattle.range.proofs.Fitting.{and-first, and-second}
+use Rattle.range.proofs.Shifting.{shiftable}
 use Rattle.range.proofs.Powers.{ten-thousand}
 use Rattle.range.proofs.Ordered.{scaled-ordered}
 
@@ -37,7 +39,7 @@ scaled-within r o =
     let high : leZ (r .high) (most *ℤ pos 10000) ≡ leZ (scaledOf r .high) most = sym (same-tests (ceil-iff most (r .high) ten-thousand)) in
     ap (λ (t : Bool). cond t (scaledOf r) over) (ap₂ _&&_ low (ap₂ _&&_ order high))
 
--- the ends that are divided are within 10,000 times the limit. s is the flag that their test left
+-- the ends that are divided are within 10,000 times the limit, which is as much as they are raised by. s is the flag that their test left
 module _ (r : Range) {s : Bool} (t : s ≡ true)
     (e : s ≡ (leZ (least *ℤ pos 10000) (r .low) && (leZ (r .low) (r .high) && leZ (r .high) (most *ℤ pos 10000)))) where
   abbrev low : Bool
@@ -58,8 +60,10 @@ module _ (r : Range) {s : Bool} (t : s ≡ true)
   below : r .high ≤ℤ (most *ℤ pos 10000)
   below = leZ-true _ _ (and-second order high (and-second low (order && high) (sym e ∙ t)))
 
-  pub low-dividend : natAbs (r .low) ≤ 20000000000000
-  low-dividend = within-abs 20000000000000 (r .low) above (≤ℤ-trans in-order below)
+  pub low-shiftable : Shiftable (toZ w64 (ofZ w64 (r .low))) (pos 10000) (pos 2000000000)
+  low-shiftable =
+      shiftable (r .low) 10000 2000000000 ten-thousand (within-abs 20000000000000 (r .low) above (≤ℤ-trans in-order below)) (lit≤ tt)
 
-  pub high-dividend : natAbs (r .high) ≤ 20000000000000
-  high-dividend = within-abs 20000000000000 (r .high) (≤ℤ-trans above in-order) below
+  pub high-shiftable : Shiftable (toZ w64 (ofZ w64 (r .high))) (pos 10000) (pos 2000000000)
+  high-shiftable =
+      shiftable (r .high) 10000 2000000000 ten-thousand (within-abs 20000000000000 (r .high) (≤ℤ-trans above in-order) below) (lit≤ tt)

@@ -4,7 +4,7 @@ use mathlib.Core.Path.{_≡_, sym, ap, ap₂, _∙_}
 use Prim.Native.Nat.{ℕ, _+_, _*_, _/_, _≤_, _<_}
 use native.Mathlib.Nat as N
 use native.Mathlib.Omega.{arith}
-use lib.Dec.{T}
+use lib.Dec.{T, lit<, lit≤}
 use lib.IntN.{ℤ, pos, negsuc, natAbs, _+ℤ_, _-ℤ_, _*ℤ_}
 use lib.Signed.{nonNeg, _≤ℤ_, _<ℤ_}
 use mir.Syntax.{w64}
@@ -198,6 +198,10 @@ shiftable x d k p h b =
     below : (x : ℤ) → natAbs x ≤ k * d → (x +ℤ pos (k * d) +ℤ pos d) ≤ℤ pos 9000000000000000000
     below (pos n) h = omega (ints, add-dif (pos n) (pos (k * d)), add-dif (pos n +ℤ pos (k * d)) (pos d))
     below (negsuc n) h = omega (ints, add-dif (negsuc n) (pos (k * d)), add-dif (negsuc n +ℤ pos (k * d)) (pos d))
+
+-- products of two ends
+pub product-shiftable : (x : ℤ) → natAbs x ≤ 4000000000000000000 → Shiftable (held x) (pos 10000) (pos 400000000000000)
+product-shiftable x h = shiftable x 10000 400000000000000 (lit< tt) h (lit≤ tt)
 
 -- not below 0, so that nothing has to be added
 pub unshifted : (n : ℕ) (d : ℤ) → pos 0 <ℤ d → (pos n +ℤ d) ≤ℤ pos 9000000000000000000 → Shiftable (pos n) d (pos 0)

@@ -5,7 +5,7 @@ use Prim.Native.Nat.{_≤_}
 use native.Mathlib.Nat.{mul-le-mul}
 use native.Mathlib.Omega.{arith}
 use lib.IntN.{ℤ, pos, negsuc, negℤ, natAbs, _+ℤ_, _-ℤ_, _*ℤ_, +ℤ-idl}
-use lib.Dec.{T}
+use lib.Dec.{T, lit<, lit≤}
 use lib.Signed.{nonNeg, _≤ℤ_}
 use mir.Syntax.{w64}
 use mir.Val.{Fits, SFits, toZ, ofZ}
@@ -16,9 +16,11 @@ use Rattle.exact.proofs.Machine.{fits-abs}
 use Rattle.range.specs.declared.Range.{Range}
 use Rattle.range.specs.Arithmetic.{greaterOf}
 use Rattle.range.specs.Star.{magnitudeOf, starRoot, isHalf}
+use Rattle.range.specs.Steps.{Shiftable}
 use Rattle.range.proofs.Valid.{true-T}
 use Rattle.range.proofs.Extremes.{greater-any}
 use Rattle.range.proofs.Fitting.{neg-fits}
+use Rattle.range.proofs.Shifting.{shiftable}
 use Rattle.range.proofs.StarRoot.{radicand-nonneg}
 use Rattle.range.proofs.StarLaws.{halfSpan, half-span}
 
@@ -164,6 +166,9 @@ module _ (a b m : ℤ) (p : InHalf a) (q : InHalf b) (h : InHalf m) (r : ℤ) (k
       (ap (λ z. a +ℤ b +ℤ z) root-made)
 
 -- ---- halves of a number that is passed on
+pub half-shiftable : (x : ℤ) → natAbs x ≤ 5000000000 → Shiftable (passedOn x) (pos 2) (pos 3000000000)
+half-shiftable x h = shiftable x 2 3000000000 (lit< tt) (omega (arith, h)) (lit≤ tt)
+
 module _ {x y : ℤ} (f : SFits w64 x) (g : SFits w64 y) where
   pub halved-down : y ≡ floorDiv (passedOn x) 2 → passedOn y ≡ floorDiv x 2
   halved-down e = rw (toZ-ofZ w64 y g, e, toZ-ofZ w64 x f)
