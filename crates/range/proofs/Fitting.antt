@@ -21,6 +21,10 @@ use Rattle.range.proofs.Valid.{T-true, true-T, and-left, and-right, end
 use Rattle.range.proofs.Valid.{both-right, kept-is, sticky₁-is, sticky₂-is, not-true, and-false, over-invalid}
 use Rattle.range.proofs.Extremes.{lesser-left, lesser-any, greater-left, greater-any, least-product, greatest-product}
 
+-- a number as 64 bits hold it: one that is computed, or passed on
+abbrev pub held : ℤ → ℤ
+held z = toZ w64 (ofZ w64 z)
+
 abbrev pub InLimit : ℤ → Type 0
 InLimit z = natAbs z ≤ 2000000000
 
@@ -35,10 +39,10 @@ module _ (r : Range) (v : isValid r ≡ true) where
   high-within = let e = ends-of r (true-T v) in in-limit (r .high) (omega ints) (e .below)
 
   -- as a number that is passed on
-  pub low-read : toZ w64 (ofZ w64 (r .low)) ≡ r .low
+  pub low-read : held (r .low) ≡ r .low
   low-read = toZ-ofZ w64 (r .low) (fits-abs (r .low) (omega (arith, low-within)))
 
-  pub high-read : toZ w64 (ofZ w64 (r .high)) ≡ r .high
+  pub high-read : held (r .high) ≡ r .high
   high-read = toZ-ofZ w64 (r .high) (fits-abs (r .high) (omega (arith, high-within)))
 
   pub valid-small : Small r
@@ -146,7 +150,7 @@ pub byte-read : (k : ℕ) → Fits w8 k → toZ w64 k ≡ pos k
 byte-read k h = toZ-pos w64 k (omega arith)
 
 -- a number that is not negative, as an unsigned one
-pub nonneg-cast : (z : ℤ) → leZ (pos 0) z ≡ true → SFits w64 z → T (nonNeg (toZ w64 (ofZ w64 z))) × Fits w64 (natAbs (toZ w64 (ofZ w64 z)))
+pub nonneg-cast : (z : ℤ) → leZ (pos 0) z ≡ true → SFits w64 z → T (nonNeg (held z)) × Fits w64 (natAbs (held z))
 nonneg-cast (pos n) p f = rw (toZ-ofZ w64 (pos n) f) (tt, omega arith)
 nonneg-cast (negsuc n) p f = let z : _≡_ {A = ℕ} 0 1 = cc in let g : ⊥ = omega arith in absurd g
 
@@ -166,11 +170,11 @@ fits-narrow (pos n) h = record { sfits = omega arith }
 fits-narrow (negsuc n) h = record { sfits = omega arith }
 
 -- ---- a number that was computed: its bits are read back
-pub read : (x : ℤ) {y : ℤ} → SFits w64 x → x ≡ y → toZ w64 (ofZ w64 x) ≡ y
+pub read : (x : ℤ) {y : ℤ} → SFits w64 x → x ≡ y → held x ≡ y
 read x f p = toZ-ofZ w64 x f ∙ p
 
 -- ---- a range made of two numbers that were computed: their bits are read back
-pub ends : (l h : ℤ) {x y : ℤ} → SFits w64 l → SFits w64 h → l ≡ x → h ≡ y → fromTo (toZ w64 (ofZ w64 l)) (toZ w64 (ofZ w64 h)) ≡ fromTo x y
+pub ends : (l h : ℤ) {x y : ℤ} → SFits w64 l → SFits w64 h → l ≡ x → h ≡ y → fromTo (held l) (held h) ≡ fromTo x y
 ends l h f g p q = rw (toZ-ofZ w64 l f, toZ-ofZ w64 h g, p, q)
 
 -- ---- branches: a test's flag s is what a callee ensures of it, t

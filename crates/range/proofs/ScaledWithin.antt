@@ -6,8 +6,6 @@ use mathlib.Core.Logic.{_↔_}
 use lib.Dec.{T, lit≤}
 use lib.IntN.{ℤ, pos, _*ℤ_}
 use lib.Signed.{leZ, _≤ℤ_, leZ-yes}
-use mir.Syntax.{w64}
-use mir.Val.{toZ, ofZ}
 use Rattle.algebra.proofs.Int.{≤ℤ-trans, within-abs}
 use Rattle.exact.proofs.Div.{floor-iff, ceil-iff}
 use Rattle.exact.proofs.Machine.{leZ-true}
@@ -16,7 +14,7 @@ use Rattle.range.specs.Limit.{least, most, over, isValid, kept}
 use Rattle.range.specs.Arithmetic.{scaledOf}
 use Rattle.range.specs.Steps.{Shiftable, scaledWithin}
 use Rattle.range.proofs.Valid.{T-true, true-T}
-use Rattle.range.proofs.Fitting.{and-first, and-second}
+use Rattle.range.proofs.Fitting.{held, and-first, and-second}
 use Rattle.range.proofs.Shifting.{shiftable}
 use Rattle.range.proofs.Powers.{ten-thousand}
 use Rattle.range.proofs.Ordered.{scaled-ordered}
@@ -60,10 +58,10 @@ module _ (r : Range) {s : Bool} (t : s ≡ true)
   below : r .high ≤ℤ (most *ℤ pos 10000)
   below = leZ-true _ _ (and-second order high (and-second low (order && high) (sym e ∙ t)))
 
-  pub low-shiftable : Shiftable (toZ w64 (ofZ w64 (r .low))) (pos 10000) (pos 2000000000)
+  pub low-shiftable : Shiftable (held (r .low)) (pos 10000) (pos 2000000000)
   low-shiftable =
       shiftable (r .low) 10000 2000000000 ten-thousand (within-abs 20000000000000 (r .low) above (≤ℤ-trans in-order below)) (lit≤ tt)
 
-  pub high-shiftable : Shiftable (toZ w64 (ofZ w64 (r .high))) (pos 10000) (pos 2000000000)
+  pub high-shiftable : Shiftable (held (r .high)) (pos 10000) (pos 2000000000)
   high-shiftable =
       shiftable (r .high) 10000 2000000000 ten-thousand (within-abs 20000000000000 (r .high) (≤ℤ-trans above in-order) below) (lit≤ tt)

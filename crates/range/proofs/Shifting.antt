@@ -8,7 +8,7 @@ use lib.Dec.{T, lit<, lit≤}
 use lib.IntN.{ℤ, pos, negsuc, natAbs, _+ℤ_, _-ℤ_, _*ℤ_}
 use lib.Signed.{nonNeg, _≤ℤ_, _<ℤ_}
 use mir.Syntax.{w64}
-use mir.Val.{Fits, SFits, toZ, ofZ}
+use mir.Val.{Fits, SFits, toZ}
 use mir.ValLaws.{toZ-ofZ, toZ-pos}
 use Rattle.algebra.proofs.Ordered as Ord
 use Rattle.algebra.proofs.Int.{ints, ℤ-ordered, add-dif, sub-dif, within-abs, *ℤ-one, *ℤ-nonneg, ≤ℤ-trans, ≤ℤ-of-≡, <ℤ→≤ℤ}
@@ -16,11 +16,9 @@ use Rattle.exact.proofs.Div.{floorDiv, ceilDiv}
 use Rattle.exact.proofs.Machine.{fits-abs, floor-lowered, ceil-lowered}
 use Rattle.range.specs.Limit.{fromTo}
 use Rattle.range.specs.Steps.{Shiftable}
+use Rattle.range.proofs.Fitting.{held}
 
--- ---- a number as 64 bits hold it, and numbers of at most 9·10^18, either sign, which they hold
-abbrev held : ℤ → ℤ
-held z = toZ w64 (ofZ w64 z)
-
+-- ---- numbers of at most 9·10^18, either sign, which 64 bits hold
 record Near (z : ℤ) : Type 0 where
   few : natAbs z ≤ 9000000000000000000
 

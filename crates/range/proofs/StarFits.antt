@@ -8,7 +8,7 @@ use lib.IntN.{ℤ, pos, negsuc, negℤ, natAbs, _+ℤ_, _-ℤ_, _*ℤ_, +ℤ-idl
 use lib.Dec.{T, lit<, lit≤}
 use lib.Signed.{nonNeg, _≤ℤ_}
 use mir.Syntax.{w64}
-use mir.Val.{Fits, SFits, toZ, ofZ}
+use mir.Val.{Fits, SFits}
 use mir.ValLaws.{toZ-ofZ}
 use Rattle.algebra.proofs.Int.{ints, neg-abs, add-abs, within-abs, mul-abs}
 use Rattle.exact.specs.Div.{floorDiv, ceilDiv}
@@ -19,7 +19,7 @@ use Rattle.range.specs.Star.{magnitudeOf, starRoot, isHalf}
 use Rattle.range.specs.Steps.{Shiftable}
 use Rattle.range.proofs.Valid.{true-T}
 use Rattle.range.proofs.Extremes.{greater-any}
-use Rattle.range.proofs.Fitting.{neg-fits}
+use Rattle.range.proofs.Fitting.{held, neg-fits}
 use Rattle.range.proofs.Shifting.{shiftable}
 use Rattle.range.proofs.StarRoot.{radicand-nonneg}
 use Rattle.range.proofs.StarLaws.{halfSpan, half-span}
@@ -41,7 +41,7 @@ module _ (r : Range) (v : isHalf r ≡ true) where
   minus-low-fits = neg-fits (r .low) (omega (arith, half-low))
 
   -- made of the ends as they are passed on
-  pub magnitude-made : greaterOf (toZ w64 (ofZ w64 (pos 0 -ℤ toZ w64 (ofZ w64 (r .low))))) (toZ w64 (ofZ w64 (r .high))) ≡ magnitudeOf r
+  pub magnitude-made : greaterOf (held (pos 0 -ℤ held (r .low))) (held (r .high)) ≡ magnitudeOf r
   unfolding magnitudeOf
   magnitude-made =
       rw (
@@ -55,14 +55,10 @@ module _ (r : Range) (v : isHalf r ≡ true) where
   unfolding magnitudeOf
   half-magnitude = greater-any (negℤ (r .low)) (r .high) InHalf (omega (arith, neg-abs (r .low), half-low)) half-high
 
--- a number that is passed on
-abbrev passedOn : ℤ → ℤ
-passedOn z = toZ w64 (ofZ w64 z)
-
-pub half-read : (z : ℤ) → InHalf z → passedOn z ≡ z
+pub half-read : (z : ℤ) → InHalf z → held z ≡ z
 half-read z h = toZ-ofZ w64 z (fits-abs z (omega (arith, h)))
 
-pub half-passed : (z : ℤ) → InHalf z → InHalf (passedOn z)
+pub half-passed : (z : ℤ) → InHalf z → InHalf (held z)
 half-passed z h = rw (half-read z h) h
 
 -- ---- the radicand
@@ -148,30 +144,30 @@ pub ruleset halving = (ends-fit, less-root-few, less-root-fits, more-root-few, m
 
 -- and what they are, r being the root of the numbers as they are passed on
 module _ (a b m : ℤ) (p : InHalf a) (q : InHalf b) (h : InHalf m) (r : ℤ) (k : natAbs r ≤ 3000000000)
-    (e : r ≡ starRoot (passedOn a) (passedOn b) (passedOn m)) where
+    (e : r ≡ starRoot (held a) (held b) (held m)) where
   root-made : r ≡ starRoot a b m
   root-made = e ∙ λ i. starRoot (half-read a p i) (half-read b q i) (half-read m h i)
 
-  root-read : passedOn r ≡ r
+  root-read : held r ≡ r
   root-read = toZ-ofZ w64 r (fits-abs r (omega (arith, k)))
 
-  pub low-made : passedOn (passedOn (passedOn a +ℤ passedOn b) -ℤ passedOn r) ≡ a +ℤ b -ℤ starRoot a b m
+  pub low-made : held (held (held a +ℤ held b) -ℤ held r) ≡ a +ℤ b -ℤ starRoot a b m
   low-made =
       rw (half-read a p, half-read b q, toZ-ofZ w64 (a +ℤ b) (ends-fit a b p q), root-read, toZ-ofZ w64 (a +ℤ b -ℤ r) (less-root-fits a b p q r k))
       (ap (λ z. a +ℤ b -ℤ z) root-made)
 
-  pub high-made : passedOn (passedOn (passedOn a +ℤ passedOn b) +ℤ passedOn r) ≡ a +ℤ b +ℤ starRoot a b m
+  pub high-made : held (held (held a +ℤ held b) +ℤ held r) ≡ a +ℤ b +ℤ starRoot a b m
   high-made =
       rw (half-read a p, half-read b q, toZ-ofZ w64 (a +ℤ b) (ends-fit a b p q), root-read, toZ-ofZ w64 (a +ℤ b +ℤ r) (more-root-fits a b p q r k))
       (ap (λ z. a +ℤ b +ℤ z) root-made)
 
 -- ---- halves of a number that is passed on
-pub half-shiftable : (x : ℤ) → natAbs x ≤ 5000000000 → Shiftable (passedOn x) (pos 2) (pos 3000000000)
+pub half-shiftable : (x : ℤ) → natAbs x ≤ 5000000000 → Shiftable (held x) (pos 2) (pos 3000000000)
 half-shiftable x h = shiftable x 2 3000000000 (lit< tt) (omega (arith, h)) (lit≤ tt)
 
 module _ {x y : ℤ} (f : SFits w64 x) (g : SFits w64 y) where
-  pub halved-down : y ≡ floorDiv (passedOn x) 2 → passedOn y ≡ floorDiv x 2
+  pub halved-down : y ≡ floorDiv (held x) 2 → held y ≡ floorDiv x 2
   halved-down e = rw (toZ-ofZ w64 y g, e, toZ-ofZ w64 x f)
 
-  pub halved-up : y ≡ ceilDiv (passedOn x) 2 → passedOn y ≡ ceilDiv x 2
+  pub halved-up : y ≡ ceilDiv (held x) 2 → held y ≡ ceilDiv x 2
   halved-up e = rw (toZ-ofZ w64 y g, e, toZ-ofZ w64 x f)
