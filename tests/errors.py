@@ -1,8 +1,8 @@
 """Wrong rules, each in the place of a right one: the comparison has to tell them all from the right ones.
 
 Of rating, the first five are the errors that 01 names at its end, then come the results "From the buyer" wants turned down, then other
-readings of sentences that decide a result, near misses of 02's request 2, the sum of squares, and of its request 4: of which products are
-special cases, of their bends, and of what is refused. Those of loading are near misses of request 5: of which lines are refused with 15, of its
+readings of sentences that decide a result, near misses of 02's request 2, the sum of squares, of its request 4: of which products are
+special cases, of their bends, and of what is refused; and of its request 8, of a division by a sum and of the limit before it. Those of loading are near misses of request 5: of which lines are refused with 15, of its
 number and place, and of when it comes. Those of tidying (request 1) are near misses of what is used, what is kept and how it is renumbered; those
 of the fleet page (request 3), of what a boat is, of what is counted, summed and compared, and of which lists are taken; those of classes cut finer
 (request 6), of which range is cut, where and how often, of what is made of the two halves, of which depths are taken, and of the first line; those of
@@ -31,6 +31,48 @@ class TowardZero(Rules):
     def down(self, dividend, divisor):
         quotient = abs(dividend) // abs(divisor)
         return quotient if dividend * divisor >= 0 else -quotient
+
+
+class MultiplesLowered(Rules):
+    """A multiple of the divisor below 0 divided to one less than its quotient."""
+    def down(self, dividend, divisor):
+        quotient = super().down(dividend, divisor)
+        return quotient - 1 if quotient < 0 and dividend % divisor == 0 else quotient
+
+
+class NothingAdded(Rules):
+    """Rounding up without d - 1 in the sum, and so down."""
+    def up(self, dividend, divisor):
+        return self.down(dividend, divisor)
+
+
+class AddedTooLittle(Rules):
+    """Rounding up by a sum with d - 2."""
+    def up(self, dividend, divisor):
+        return self.down(dividend + abs(divisor) - 2 if divisor > 0 else dividend - abs(divisor) + 2, divisor)
+
+
+class AddedTooMuch(Rules):
+    """Rounding up by a sum with d, so that a multiple of the divisor is divided to one more than its quotient."""
+    def up(self, dividend, divisor):
+        return self.down(dividend, divisor) + 1
+
+
+class LimitTowardZero(Rules):
+    """The limit tested of a product's quotients toward zero, so that less than a unit past it is taken."""
+    def product(self, a, b, step):
+        if max(abs(x * y) for x in a for y in b) // UNIT <= LIMIT:
+            r = self.product_ends(a, b)
+            return Range(max(r.low, -LIMIT), min(r.high, LIMIT))
+        return super().product(a, b, step)
+
+
+class DividendAtLimit(Rules):
+    """A product refused where its dividend reaches 10,000 times the limit."""
+    def product(self, a, b, step):
+        if max(abs(x * y) for x in a for y in b) >= LIMIT * UNIT:
+            raise PastLimit(step)
+        return super().product(a, b, step)
 
 
 class SquareByEnds(Rules):
@@ -466,6 +508,7 @@ ERRORS = [
     RootOfExactSums,
     NoLift, ZeroInHull, BentSetKept, ZerothPowerOne,
     UnbentSpecial, OneFactorSpecial, BentSetsSpecial, TwoFactorsSpecial, BillionOfEveryProduct,
+    MultiplesLowered, NothingAdded, AddedTooLittle, AddedTooMuch, LimitTowardZero, DividendAtLimit,
 ]
 
 # Those that differ from the right rules in special cases of a product only.
