@@ -20,7 +20,7 @@ use Rattle.range.proofs.Shifting.{unshifted}
 pub less-true : (a b : ℤ) → a <ℤ b → ltZ a b ≡ true
 less-true a b h = T-true (h .lt)
 
--- the ends of a range above 0 divide 100,000,000, which no shift is needed for
+-- by the ends of a range above 0 100,000,000 is divided without a shift
 module _ (r : Range) (v : isValid r ≡ true) where
   high-above : ltZ (pos 0) (r .low) ≡ true → ltZ (pos 0) (r .high) ≡ true
   high-above p = let e = ends-of r (true-T v) in let q : pos 0 <ℤ r .low = ltZ-yes (true-T p) in less-true (pos 0) (r .high) (omega ints)

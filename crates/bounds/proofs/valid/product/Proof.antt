@@ -1,6 +1,6 @@
 -- `bounds::valid::product` meets its contract. Assumes nothing.
 use borrow.Author.Needs.{needs}
-use mathlib.Core.Path.{_≡_, sym, ap, _∙_}
+use mathlib.Core.Path.{sym, ap, _∙_}
 use Rattle.range.specs.Arithmetic.{spreadOf, endsProduct, productOf}
 use Rattle.range.specs.Steps.{scaledWithin}
 use Rattle.range.proofs.ScaledWithin.{scaled-within}
