@@ -22,7 +22,7 @@ use Rattle.rules.specs.declared.Refusal.the-variants.{NoCodelist, RangeC
 use Rattle.rules.specs.declared.Limits.{Limits}
 use Rattle.rules.specs.declared.Rating.{Rating}
 use Rattle.rules.specs.Table.{factorRow, lineOf}
-use Rattle.rules.specs.Run.{rowOf, Lines, through, stopped, runOps, factorLines, linesOf, operations}
+use Rattle.rules.specs.Run.{rowOf, Lines, through, stopped, runOps, factorLines, alwaysBent, linesOf, operations}
 use Rattle.rules.specs.Rate.{last, limitsOf, rated, refused, pairs, finished, firstBad, rateRanges, rateOf}
 use Rattle.rules.specs.Exact.{Point, Jet, factorJet, exactLines, premiumOf}
 use Rattle.rules.proofs.Along.{at-turn, Along, along-last, along-run, along-factors, Kept}
@@ -85,32 +85,32 @@ run-grows (o ∷ ops) ls ms e =
     let next = lineOf (rowOf (o .op) ls) in
     omega (arith, run-grows ops (ls ++ (next ∷ [])) ms (at-turn o ops ls ms e .1), length-append ls (next ∷ []))
 
-factors-length : (i : ℕ) (rs : List Range) → length (factorLines i rs) ≡ length rs
+factors-length : (f i : ℕ) (rs : List Range) → length (factorLines f i rs) ≡ length rs
 unfolding factorLines
-factors-length i [] = refl
-factors-length i (r ∷ rs) = ap suc (factors-length (suc i) rs)
+factors-length f i [] = refl
+factors-length f i (r ∷ rs) = ap suc (factors-length f (suc i) rs)
 
 -- what holds of the factors' lines, and is kept: of every line of a run that goes through, and of an accepted rating's
 module _ (R : (Point → Option Jet) → Line → Type 0) (K : Kept R) {c : Codelist} where
   pub run-lines : (rs : List Range) {ls : List Line} → Ratable c → length rs ≡ c .factors → linesOf c rs ≡ through ls
-      → ((a : ℕ) → a < c .factors → R (λ p. some (factorJet p a)) (lineOf (factorRow a (at rs a))))
+      → ((a : ℕ) → a < c .factors → R (λ p. some (factorJet p a)) (lineOf (factorRow (alwaysBent c) a (at rs a))))
       → Along R (exactLines c) ls
   unfolding exactLines linesOf
   run-lines rs {ls} w n e h =
-      let first = factorLines 0 rs in
-      let count : length first ≡ c .factors = factors-length 0 rs ∙ n in
+      let first = factorLines (alwaysBent c) 0 rs in
+      let count : length first ≡ c .factors = factors-length (alwaysBent c) 0 rs ∙ n in
       along-run R K (operations c) first ls
       (rw count (w .each))
-      (rw n at (along-factors R 0 rs (λ a k. rw (N.zero-add a) (h a (omega (arith, n))))))
+      (rw n at (along-factors R (alwaysBent c) 0 rs (λ a k. rw (N.zero-add a) (h a (omega (arith, n))))))
       e
 
   module _ {xs : List ℤ} {l : Limits} (A : Accepted c xs l)
-      (h : (a : ℕ) → a < c .factors → R (λ p. some (factorJet p a)) (lineOf (factorRow a (at (pairs xs) a)))) where
+      (h : (a : ℕ) → a < c .factors → R (λ p. some (factorJet p a)) (lineOf (factorRow (alwaysBent c) a (at (pairs xs) a)))) where
     pub every-line : Along R (exactLines c) (A .lines)
     every-line = run-lines (pairs xs) (A .codelist) (A .count) (A .ran) h
 
     pub last-line : R (premiumOf c) (last (A .lines))
     unfolding premiumOf linesOf
     last-line =
-        let grown = run-grows (operations c) (factorLines 0 (pairs xs)) (A .lines) (A .ran) in
-        along-last R (omega (arith, factors-length 0 (pairs xs), A .count, A .codelist .factors .0)) every-line
+        let grown = run-grows (operations c) (factorLines (alwaysBent c) 0 (pairs xs)) (A .lines) (A .ran) in
+        along-last R (omega (arith, factors-length (alwaysBent c) 0 (pairs xs), A .count, A .codelist .factors .0)) every-line

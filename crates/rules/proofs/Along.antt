@@ -89,12 +89,12 @@ module _ (R : (Point → Option Jet) → Line → Type 0) where
       (t .1)
 
   -- the factors, from i on
-  pub along-factors : (i : ℕ) (rs : List Range)
-      → ((a : ℕ) → a < length rs → R (λ p. some (factorJet p (i + a))) (lineOf (factorRow (i + a) (at rs a))))
-      → Along R (λ p. factorJets p i (length rs)) (factorLines i rs)
+  pub along-factors : (f i : ℕ) (rs : List Range)
+      → ((a : ℕ) → a < length rs → R (λ p. some (factorJet p (i + a))) (lineOf (factorRow f (i + a) (at rs a))))
+      → Along R (λ p. factorJets p i (length rs)) (factorLines f i rs)
   unfolding factorJets factorLines
-  along-factors i [] h = nil
-  along-factors i (r ∷ rs) h =
+  along-factors f i [] h = nil
+  along-factors f i (r ∷ rs) h =
       cons
       (rw (N.add-zero i) at (h 0 (omega arith)))
-      (along-factors (suc i) rs (λ a k. let e : suc i + a ≡ i + suc a = omega arith in rw e (h (suc a) (omega arith))))
+      (along-factors f (suc i) rs (λ a k. let e : suc i + a ≡ i + suc a = omega arith in rw e (h (suc a) (omega arith))))

@@ -80,9 +80,9 @@ enclosed {x} r t v g = record {
 }
 
 -- ---- the table
-pub factor-enclosed : (p : Point) (i : ℕ) (r : Range) → InRange (coordinate p i) r → Enclosed (factorJet p i) (lineOf (factorRow i r))
+pub factor-enclosed : (f : ℕ) (p : Point) (i : ℕ) (r : Range) → InRange (coordinate p i) r → Enclosed (factorJet p i) (lineOf (factorRow f i r))
 unfolding factorJet factorRow lineOf isValid
-factor-enclosed p i r h = record { value = h; first = λ a k. rw (at-eight (λ a. cond (eqb a i) oneRange zeroRange) a k) (one-at (eqb a i)) }
+factor-enclosed f p i r h = record { value = h; first = λ a k. rw (at-eight (λ a. cond (eqb a i) oneRange zeroRange) a k) (one-at (eqb a i)) }
   where
     one-at : (b : Bool) → InRange (cond b 1ℚ 0ℚ) (cond b oneRange zeroRange)
     one-at true = inclusion .one .between tt

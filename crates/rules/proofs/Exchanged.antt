@@ -15,7 +15,7 @@ use Rattle.range.proofs.Laws.{laws}
 use Rattle.rules.specs.declared.Line.{Line}
 use Rattle.rules.specs.Formula.{Formula, given, _⊗_, sticky}
 use Rattle.rules.specs.Sets.{_∪_, only}
-use Rattle.rules.specs.Table.{extended, spectrumOfSum, crossSpectrum, productSpectrum, starSpectrum}
+use Rattle.rules.specs.Table.{reach, extended, spectrumOfSum, crossSpectrum, productSpectrum, starSpectrum}
 use Rattle.rules.proofs.SetTests.{apart-comm}
 
 abbrev S : Symmetry
@@ -39,16 +39,16 @@ cross-exchanged s g h = simp (S .product (at g (only s)) (at h (only s)), S .pro
 module _ (x y : Line) where
   pub product-exchanged : sticky (productSpectrum x y) ≡ sticky (productSpectrum y x)
   product-exchanged =
-      let s = union-comm (x .support) (y .support) in
+      let s = union-comm (reach x) (reach y) in
       let b = union-comm (x .nonlinear) (y .nonlinear) in
-      let cross = cross-exchanged (x .support ∪ y .support) (x .gradient) (y .gradient)
+      let cross = cross-exchanged (reach x ∪ reach y) (x .gradient) (y .gradient)
       ∙ ap (λ s. sticky (crossSpectrum s (y .gradient) (x .gradient))) s in
       let join = sum-exchanged (given (y .value) ⊗ given (x .spectrum)) (given (x .value) ⊗ given (y .spectrum)) (x .nonlinear) (y .nonlinear) in
       λ i. sumOf (cross i) (cond (eqb (b i) (s i)) (join i) (hullOf (join i) zeroRange))
 
   pub star-exchanged : sticky (starSpectrum x y) ≡ sticky (starSpectrum y x)
   star-exchanged =
-      let p = at (x .gradient) (only (x .support)) in
-      let q = at (y .gradient) (only (y .support)) in
+      let p = at (x .gradient) (only (reach x)) in
+      let q = at (y .gradient) (only (reach y)) in
       S .star (productOf (y .value) (x .spectrum)) (productOf (x .value) (y .spectrum)) (productOf p q)
       ∙ ap (λ c. starOf (productOf (x .value) (y .spectrum)) (productOf (y .value) (x .spectrum)) c) (S .product p q)

@@ -62,9 +62,9 @@ lowest-bad a (r ∷ rs) (suc i) l b g =
     let v : isValid r ≡ true = good-iff r .1 (g 0 (omega arith)) in
     rw v (omega (arith, lowest-bad (suc a) rs i (omega arith) b (λ j k. g (suc j) (omega arith))))
 
-pub factors-within : (i : ℕ) (rs : List Range) → Good (length rs) rs → LinesWithin (length rs) (factorLines i rs)
+pub factors-within : (f i : ℕ) (rs : List Range) → Good (length rs) rs → LinesWithin (length rs) (factorLines f i rs)
 unfolding factorLines
-factors-within i [] g = record { each = none; count = refl }
-factors-within i (r ∷ rs) g =
-    let f = factors-within (suc i) rs (λ j l. g (suc j) (omega arith)) in
-    record { each = more (factor-within i r (true-T (good-iff r .1 (g 0 (omega arith))))) (f .each); count = ap suc (f .count) }
+factors-within f i [] g = record { each = none; count = refl }
+factors-within f i (r ∷ rs) g =
+    let t = factors-within f (suc i) rs (λ j l. g (suc j) (omega arith)) in
+    record { each = more (factor-within f i r (true-T (good-iff r .1 (g 0 (omega arith))))) (t .each); count = ap suc (t .count) }

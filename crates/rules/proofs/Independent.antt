@@ -8,7 +8,7 @@ use Rattle.exact.proofs.Rat.{ℚ, _*ℚ_, 1ℚ, recip, recip-some}
 use Rattle.range.specs.declared.Range.{Range}
 use Rattle.rules.specs.declared.Line.{Line}
 use Rattle.rules.specs.Sets.{_∪_}
-use Rattle.rules.specs.Table.{factorRow, addRow, addcRow, mulcRow, mulRow, powRow, invRow, lineOf}
+use Rattle.rules.specs.Table.{reach, factorRow, addRow, addcRow, mulcRow, mulRow, powRow, invRow, lineOf}
 use Rattle.rules.specs.Exact.{Point, Jet, factorJet, addJet, addcJet, mulcJet, mulJet, powJet, invJet, using1, using2, invert}
 use Rattle.rules.specs.Promises.{Agree}
 use Rattle.rules.proofs.Members.{_⊆_, left-in, right-in, in-single}
@@ -57,17 +57,19 @@ module _ (p q : Point) where
   pub agree-part : {s t : ℕ} → s ⊆ t → Agree t p q → Agree s p q
   agree-part h g = record { each = λ a m. g .each a (h .into a m) }
 
-  pub factor-independent : (i : ℕ) (r : Range) → Independent p q (factorJet p i) (some (factorJet q i)) (lineOf (factorRow i r))
+  pub factor-independent : (f i : ℕ) (r : Range) → Independent p q (factorJet p i) (some (factorJet q i)) (lineOf (factorRow f i r))
   unfolding factorJet factorRow lineOf
-  factor-independent i r = record {
+  factor-independent f i r = record {
     value = λ g. given-some (record { value = sym (g .each i (in-single i)) });
     first = λ g. given-some (record { first = λ a. refl });
   }
 
   module _ {x : Jet} {u : Option Jet} {l : Line} (h : Independent p q x u l) where
-    -- where the points agree on P, both are the same
-    both : l .nonlinear ⊆ l .support → Agree (l .support) p q → Given (λ y. SameValue x y × SameFirst x y) u
-    both n g = given-both (h .value g) (h .first (agree-part n g))
+    -- where the points agree on P and B, both are the same
+    both : Agree (reach l) p q → Given (λ y. SameValue x y × SameFirst x y) u
+    both g =
+        given-both (h .value (agree-part (left-in (l .support) (l .nonlinear)) g))
+        (h .first (agree-part (right-in (l .support) (l .nonlinear)) g))
 
     pub addc-independent : (c : ℤ) → Independent p q (addcJet x c) (using1 (λ x. some (addcJet x c)) u) (lineOf (addcRow l c))
     unfolding addcJet addcRow lineOf
@@ -83,12 +85,12 @@ module _ (p q : Point) where
       first = λ g. given1 _ (h .first g) (λ y e. given-some (record { first = λ a. rw (e .first a) }));
     }
 
-    module _ (n : l .nonlinear ⊆ l .support) where
+    module _ where
       pub pow-independent : (m : ℕ) → Independent p q (powJet x m) (using1 (λ x. some (powJet x m)) u) (lineOf (powRow l m))
       unfolding powJet powRow lineOf
       pow-independent m = record {
         value = λ g. given1 _ (h .value g) (λ y e. given-some (record { value = rw (e .value) }));
-        first = λ g. given1 _ (both n g) (λ y e. given-some (record { first = λ a. rw (e .0 .value, e .1 .first a) }));
+        first = λ g. given1 _ (both g) (λ y e. given-some (record { first = λ a. rw (e .0 .value, e .1 .first a) }));
       }
 
       -- z is 1/x, and so 1/y
@@ -97,7 +99,7 @@ module _ (p q : Point) where
       unfolding invJet invRow lineOf
       inv-independent z one = record {
         value = λ g. given1 _ (h .value g) (λ y e. inverted y (e .value) (record { value = refl }));
-        first = λ g. given1 _ (both n g) (λ y e. inverted y (e .0 .value) (record { first = λ a. rw (e .1 .first a) }));
+        first = λ g. given1 _ (both g) (λ y e. inverted y (e .0 .value) (record { first = λ a. rw (e .1 .first a) }));
       }
         where
           inverted : {P : Jet → Type 0} (y : Jet) → y .value ≡ x .value → P (invJet y z) → Given P (invert y (recip (y .value)))
@@ -123,14 +125,13 @@ module _ (p q : Point) where
           (λ z w e f. record { first = λ a. rw (e .first a, f .first a) });
     }
 
-    pub mul-independent : l .nonlinear ⊆ l .support → m .nonlinear ⊆ m .support
-        → Independent p q (mulJet x y) (using2 mulJet u v) (lineOf (mulRow l m))
+    pub mul-independent : Independent p q (mulJet x y) (using2 mulJet u v) (lineOf (mulRow l m))
     unfolding mulJet mulRow lineOf
-    mul-independent n o = record {
+    mul-independent = record {
       value = λ g.
           given2 mulJet (h .value (left-support g)) (k .value (right-support g))
           (λ z w e f. record { value = rw (e .value, f .value) });
       first = λ g.
-          given2 mulJet (both h n (left-support g)) (both k o (right-support g))
+          given2 mulJet (both h (agree-part (left-in (reach l) (reach m)) g)) (both k (agree-part (right-in (reach l) (reach m)) g))
           (λ z w e f. record { first = λ a. rw (e .0 .value, e .1 .first a, f .0 .value, f .1 .first a) });
     }

@@ -1,5 +1,5 @@
 -- The bent set lies within the depends-on set: `nested`. Each row keeps this. Assumes nothing.
-use mathlib.Core.Path.{_≡_}
+use mathlib.Core.Path.{_≡_, refl}
 use mathlib.Core.List.{List}
 use mathlib.Core.Option.{Option}
 use Prim.Native.Nat.{ℕ}
@@ -13,13 +13,13 @@ use Rattle.range.specs.declared.Range.{Range}
 use Rattle.range.specs.Sums.{at}
 use Rattle.rules.specs.declared.Line.{Line}
 use Rattle.rules.specs.declared.Limits.{Limits}
-use Rattle.rules.specs.Sets.{single, _∪_}
-use Rattle.rules.specs.Table.{factorRow, addRow, addcRow, mulcRow, mulRow, powRow, invRow, lineOf}
-use Rattle.rules.specs.Run.{line, rowOf}
+use Rattle.rules.specs.Sets.{none, single}
+use Rattle.rules.specs.Table.{reach, factorRow, addRow, addcRow, mulcRow, mulRow, powRow, invRow, lineOf}
+use Rattle.rules.specs.Run.{line, rowOf, alwaysBent}
 use Rattle.rules.specs.Rate.{pairs, limitsOf, rated, rateOf}
 use Rattle.rules.specs.Exact.{Point, Jet}
 use Rattle.rules.specs.Promises.{NestedRating}
-use Rattle.rules.proofs.Members.{_⊆_, ⊆-refl, ⊆-union, none-in}
+use Rattle.rules.proofs.Members.{_⊆_, ⊆-refl, ⊆-union, union-in, none-in}
 use Rattle.rules.proofs.Along.{Along, along-line, Kept}
 use Rattle.rules.proofs.Accepted.{accepted, last-line}
 
@@ -30,27 +30,34 @@ module _ {os : Point → List (Option Jet)} {ls : List Line} (r : Along NestedLi
   nested-at : (i : ℕ) → Earlier (length ls) i → line ls i .nonlinear ⊆ line ls i .support
   nested-at i e = along-line NestedLine i e r
 
+  reach-in : (i : ℕ) → Earlier (length ls) i → reach (line ls i) ⊆ line ls i .support
+  reach-in i e = union-in (⊆-refl (line ls i .support)) (nested-at i e)
+
   nested-next : (o : Op) → WellFormedOp (length ls) o → lineOf (rowOf o ls) .nonlinear ⊆ lineOf (rowOf o ls) .support
   unfolding rowOf lineOf addRow addcRow mulcRow mulRow powRow invRow
   nested-next (Add i j) f = ⊆-union (nested-at i (f .0)) (nested-at j (f .1))
-  nested-next (Mul i j) f = ⊆-refl (line ls i .support ∪ line ls j .support)
+  nested-next (Mul i j) f = ⊆-union (reach-in i (f .0)) (reach-in j (f .1))
   nested-next (AddC i c) f = nested-at i (f .0)
   nested-next (MulC i c) f = nested-at i (f .0)
-  nested-next (Pow i m) f = ⊆-refl (line ls i .support)
-  nested-next (Inv i) f = ⊆-refl (line ls i .support)
+  nested-next (Pow i m) f = reach-in i (f .0)
+  nested-next (Inv i) f = reach-in i f
 
 pub nested-kept : Kept NestedLine
 nested-kept = record { next = λ o f r t. nested-next r o f }
 
-pub factor-nested : (i : ℕ) (r : Range) → lineOf (factorRow i r) .nonlinear ⊆ lineOf (factorRow i r) .support
+pub factor-nested : {f : ℕ} (i : ℕ) (r : Range) → f ≡ none → lineOf (factorRow f i r) .nonlinear ⊆ lineOf (factorRow f i r) .support
 unfolding factorRow lineOf
-factor-nested i r = none-in (single i)
+factor-nested i r e = rw e (none-in (single i))
+
+always-none : (c : Codelist) → alwaysBent c ≡ none
+unfolding alwaysBent
+always-none c = refl
 
 pub nested-sets : (c : Codelist) (xs : List ℤ) (l : Limits) → rateOf c xs ≡ rated l → l .nonlinear ⊆ l .support
 unfolding limitsOf
 nested-sets c xs l e =
     rw (accepted c xs l e .limits)
-    (last-line NestedLine nested-kept (accepted c xs l e) (λ a k. factor-nested a (at (pairs xs) a)))
+    (last-line NestedLine nested-kept (accepted c xs l e) (λ a k. factor-nested a (at (pairs xs) a) (always-none c)))
 
 pub nested : NestedRating
 nested c xs l e = record { into = nested-sets c xs l e .into }

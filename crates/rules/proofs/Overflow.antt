@@ -22,7 +22,7 @@ use Rattle.range.proofs.Ordered.{AllOrdered, none-ordered, append-ordered}
 use Rattle.rules.specs.declared.Line.{Line}
 use Rattle.rules.specs.Formula.{given, inverse, sticky, unlimited, produced}
 use Rattle.rules.specs.Sets.{_∪_, only}
-use Rattle.rules.specs.Table.{Row, lineOf, factorRow, squareSpectrum, crossSpectrum, addRow, addcRow, mulcRow, mulRow, powRow, invRow}
+use Rattle.rules.specs.Table.{Row, lineOf, reach, factorRow, squareSpectrum, crossSpectrum, addRow, addcRow, mulcRow, mulRow, powRow, invRow}
 use Rattle.rules.specs.Run.{noLine, line, rowOf, invertsZero, eachValid, within}
 use Rattle.rules.specs.Overflow.{allWithin, joined, stepsOf, AllLines, none, more, ExactOverflow, ExactPassing}
 use Rattle.rules.proofs.Formulas.{Proper, all-append, exact-formula, in-order}
@@ -126,14 +126,14 @@ module _ {x : Line} (v : ValidLine x) where
   pow-proper m = record {
     value = v .value;
     slope = λ a. (v .value, v .slope a);
-    spectrum = (v .value, (square-proper (x .support), (v .value, extended-proper (v .spectrum))));
+    spectrum = (v .value, (square-proper (reach x), (v .value, extended-proper (v .spectrum))));
   }
 
   inv-proper : holdsZero (x .value) ≡ false → ProperRow (invRow x)
   unfolding invRow unlimited
   inv-proper n =
       let i : Proper (inverse (given (x .value))) = (v .value, n) in
-      record { value = i; slope = λ a. (i, v .slope a); spectrum = (i, ((i, square-proper (x .support)), extended-proper (v .spectrum))) }
+      record { value = i; slope = λ a. (i, v .slope a); spectrum = (i, ((i, square-proper (reach x)), extended-proper (v .spectrum))) }
 
 module _ {x y : Line} (v : ValidLine x) (w : ValidLine y) where
   add-proper : ProperRow (addRow x y)
@@ -155,15 +155,15 @@ module _ {x y : Line} (v : ValidLine x) (w : ValidLine y) where
     value = (v .value, w .value);
     slope = λ a. ((v .value, w .slope a), (w .value, v .slope a));
     spectrum = (
-      ((w .value, v .spectrum), (v .value, w .spectrum), (v .slope (only (x .support)), w .slope (only (y .support)))),
-      (cross-proper (x .support ∪ y .support), extended-proper (sum-proper (w .value, v .spectrum) (v .value, w .spectrum))),
+      ((w .value, v .spectrum), (v .value, w .spectrum), (v .slope (only (reach x)), w .slope (only (reach y)))),
+      (cross-proper (reach x ∪ reach y), extended-proper (sum-proper (w .value, v .spectrum) (v .value, w .spectrum))),
     );
   }
 
 -- a factor's row has no step
-pub factor-within : (i : ℕ) (r : Range) → T (isValid r) → within (lineOf (factorRow i r)) ≡ true
+pub factor-within : (f i : ℕ) (r : Range) → T (isValid r) → within (lineOf (factorRow f i r)) ≡ true
 unfolding factorRow stepsOf produced allWithin isValid
-factor-within i r t = exact-row (factorRow i r) (record { value = t; slope = λ a. go (eqb a i); spectrum = tt })
+factor-within f i r t = exact-row (factorRow f i r) (record { value = t; slope = λ a. go (eqb a i); spectrum = tt })
   where
     go : (c : Bool) → T (isValid (cond c oneRange zeroRange))
     go true = tt

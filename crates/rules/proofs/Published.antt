@@ -27,7 +27,7 @@ use Rattle.rules.specs.declared.Refusal.the-variants.{NoCodelist, RangeC
 use Rattle.rules.specs.Formula.{Formula, given, sticky, unlimited, produced}
 use Rattle.rules.specs.Sets.{allOf}
 use Rattle.rules.specs.Table.{Row, factorRow, extended, eight, lineOf}
-use Rattle.rules.specs.Run.{noLine, line, rowOf, invertsZero, eachValid, within, Lines, through, stopped, runOps, factorLines, linesOf, operations}
+use Rattle.rules.specs.Run.{noLine, line, rowOf, invertsZero, eachValid, within, Lines, through, stopped, runOps, factorLines, alwaysBent, linesOf, operations}
 use Rattle.rules.specs.Rate.{last, limitsOf, rated, refused, pairs, finished, firstBad, rateRanges, rateOf}
 use Rattle.rules.specs.Overflow.{allWithin, stepsOf, AllLines, none, more}
 use Rattle.rules.specs.Published.{publishedLine, publishedFactors, publishedOps, publishedLimits, publishedResult, publishedRanges, publishedOf}
@@ -102,10 +102,10 @@ published-ops (o ∷ os) ls w p = turn (published-ops os) (invertsZero (o .op) l
     turn rest false z false e d x = let t : within next ≡ false = exact-overflow (o .op) ls (w .0) p z ∙ e in rw t
 
 -- a factor's row has no step
-published-factors : (i : ℕ) (rs : List Range) → factorLines i rs ≡ publishedFactors i rs
+published-factors : (f i : ℕ) (rs : List Range) → factorLines f i rs ≡ publishedFactors f i rs
 unfolding factorLines publishedFactors lineOf publishedLine factorRow unlimited
-published-factors i [] = refl
-published-factors i (r ∷ rs) = ap (λ (ls : List Line). lineOf (factorRow i r) ∷ ls) (published-factors (suc i) rs)
+published-factors f i [] = refl
+published-factors f i (r ∷ rs) = ap (λ (ls : List Line). lineOf (factorRow f i r) ∷ ls) (published-factors f (suc i) rs)
 
 -- ---- the result
 last-within : {ls : List Line} → AllLines (λ l. within l ≡ true) ls → within (last ls) ≡ true
@@ -131,16 +131,16 @@ published-limits n l w =
     e
 
 module _ (c : Codelist) (rs : List Range) (w : Ratable c) (count : length rs ≡ c .factors) (g : Good (length rs) rs) where
-  first : LinesWithin (c .factors) (factorLines 0 rs)
-  first = let f = factors-within 0 rs g in record { each = f .each; count = f .count ∙ count }
+  first : LinesWithin (c .factors) (factorLines (alwaysBent c) 0 rs)
+  first = let f = factors-within (alwaysBent c) 0 rs g in record { each = f .each; count = f .count ∙ count }
 
-  ops : linesOf c rs ≡ publishedOps (operations c) (publishedFactors 0 rs)
+  ops : linesOf c rs ≡ publishedOps (operations c) (publishedFactors (alwaysBent c) 0 rs)
   unfolding linesOf
   ops =
-      published-ops (operations c) (factorLines 0 rs) (rw (first .count) (w .each)) (first .each)
-      ∙ ap (publishedOps (operations c)) (published-factors 0 rs)
+      published-ops (operations c) (factorLines (alwaysBent c) 0 rs) (rw (first .count) (w .each)) (first .each)
+      ∙ ap (publishedOps (operations c)) (published-factors (alwaysBent c) 0 rs)
 
-  finish : finished (c .factors) (linesOf c rs) ≡ publishedResult (c .factors) (publishedOps (operations c) (publishedFactors 0 rs))
+  finish : finished (c .factors) (linesOf c rs) ≡ publishedResult (c .factors) (publishedOps (operations c) (publishedFactors (alwaysBent c) 0 rs))
   unfolding linesOf
   finish = go (linesOf c rs) refl ∙ ap (publishedResult (c .factors)) ops
     where
@@ -232,18 +232,19 @@ added (o ∷ os) ls ms e = turn (added os (ls ++ (next ∷ [])) ms) (invertsZero
     turn f false true q r e = behind (f e)
     turn f false false q r e = absurd (through-not e)
 
-factor-at : (i : ℕ) (rs : List Range) (a : ℕ) → a < length rs → getD (publishedFactors i rs) a noLine ≡ publishedLine (factorRow (i + a) (at rs a))
+factor-at : (f i : ℕ) (rs : List Range) (a : ℕ) → a < length rs
+    → getD (publishedFactors f i rs) a noLine ≡ publishedLine (factorRow f (i + a) (at rs a))
 unfolding publishedFactors
-factor-at i [] a l = absurd (omega arith)
-factor-at i (r ∷ rs) zero l = ap (λ (k : ℕ). publishedLine (factorRow k r)) (sym (N.add-zero i))
-factor-at i (r ∷ rs) (suc a) l =
+factor-at f i [] a l = absurd (omega arith)
+factor-at f i (r ∷ rs) zero l = ap (λ (k : ℕ). publishedLine (factorRow f k r)) (sym (N.add-zero i))
+factor-at f i (r ∷ rs) (suc a) l =
     let e : suc i + a ≡ i + suc a = omega arith in
-    factor-at (suc i) rs a (omega arith) ∙ ap (λ (k : ℕ). publishedLine (factorRow k (at rs a))) e
+    factor-at f (suc i) rs a (omega arith) ∙ ap (λ (k : ℕ). publishedLine (factorRow f k (at rs a))) e
 
-factors-count : (i : ℕ) (rs : List Range) → length (publishedFactors i rs) ≡ length rs
+factors-count : (f i : ℕ) (rs : List Range) → length (publishedFactors f i rs) ≡ length rs
 unfolding publishedFactors
-factors-count i [] = refl
-factors-count i (r ∷ rs) = ap suc (factors-count (suc i) rs)
+factors-count f i [] = refl
+factors-count f i (r ∷ rs) = ap suc (factors-count f (suc i) rs)
 
 -- the limits of accepted ranges are those of the last of such lines
 module _ {c : Codelist} {xs : List ℤ} {l : Limits} (A : Accepted c xs l) where
@@ -251,10 +252,10 @@ module _ {c : Codelist} {xs : List ℤ} {l : Limits} (A : Accepted c xs l) where
   good = all-good 0 (pairs xs) (A .good)
 
   abbrev firsts : List Line
-  firsts = publishedFactors 0 (pairs xs)
+  firsts = publishedFactors (alwaysBent c) 0 (pairs xs)
 
   firsts-count : length firsts ≡ c .factors
-  firsts-count = factors-count 0 (pairs xs) ∙ A .count
+  firsts-count = factors-count (alwaysBent c) 0 (pairs xs) ∙ A .count
 
   rest : Added (operations c) firsts (A .lines)
   unfolding linesOf
@@ -273,8 +274,8 @@ module _ {c : Codelist} {xs : List ℤ} {l : Limits} (A : Accepted c xs l) where
     count = ap length (rest .whole) ∙ length-append firsts (rest .new) ∙ omega (arith, firsts-count, rest .count, operations-count);
     factor = λ a k.
         line-in-front firsts (rest .new) (rest .whole) firsts-count a k
-        ∙ factor-at 0 (pairs xs) a (omega (arith, A .count))
-        ∙ ap (λ (i : ℕ). publishedLine (factorRow i (at (pairs xs) a))) (N.zero-add a);
+        ∙ factor-at (alwaysBent c) 0 (pairs xs) a (omega (arith, A .count))
+        ∙ ap (λ (i : ℕ). publishedLine (factorRow (alwaysBent c) i (at (pairs xs) a))) (N.zero-add a);
     operation = λ k i.
         line-behind firsts (rest .new) (rest .whole) firsts-count k
         ∙ rest .each k (omega (arith, operations-count))

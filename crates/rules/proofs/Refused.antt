@@ -18,7 +18,7 @@ use Rattle.rules.specs.declared.Refusal.the-variants.{NoCodelist, RangeC
 use Rattle.rules.specs.declared.Outcome.the-variants.{Refused}
 use Rattle.rules.specs.declared.Limits.{Limits}
 use Rattle.rules.specs.declared.Rating.{Rating}
-use Rattle.rules.specs.Run.{Lines, through, stopped, factorLines, operations, linesOf}
+use Rattle.rules.specs.Run.{Lines, through, stopped, factorLines, alwaysBent, operations, linesOf}
 use Rattle.rules.specs.Rate.{limitsOf, last, rated, refused, pairs, finished, firstBad, rateRanges, rateOf}
 use Rattle.rules.specs.Refused.{rangeOf, Bad, Runnable, RefusedFor, RefusedExactly}
 use Rattle.rules.proofs.Accepted.{pairs-length, not-rated}
@@ -55,11 +55,11 @@ module _ (c : Codelist) (xs : List ℤ) where
     unfolding rateRanges
     ran = counted (t .codelist) (t .count) ∙ ap (rateRanges c (pairs xs)) (none-bad 1 (pairs xs) (good-ranges t))
 
-    run-iff : (r : Refusal) → (linesOf c (pairs xs) ≡ stopped r) ↔ RunRefused r (operations c) (factorLines 0 (pairs xs))
+    run-iff : (r : Refusal) → (linesOf c (pairs xs) ≡ stopped r) ↔ RunRefused r (operations c) (factorLines (alwaysBent c) 0 (pairs xs))
     unfolding linesOf
     run-iff r =
-        let f = factors-within 0 (pairs xs) (good-ranges t) in
-        run-refused-iff (operations c) (factorLines 0 (pairs xs)) (t .codelist .each)
+        let f = factors-within (alwaysBent c) 0 (pairs xs) (good-ranges t) in
+        run-refused-iff (operations c) (factorLines (alwaysBent c) 0 (pairs xs)) (t .codelist .each)
         (record { each = f .each; count = f .count ∙ pairs-length xs (c .factors) (t .count) })
         r
 
@@ -71,7 +71,7 @@ module _ (c : Codelist) (xs : List ℤ) where
   class-lines : Runnable c xs → Class (finished (c .factors) (linesOf c (pairs xs)))
   class-lines t = go (linesOf c (pairs xs)) (λ r. run-iff t r .0)
     where
-      go : (x : Lines) → ((r : Refusal) → x ≡ stopped r → RunRefused r (operations c) (factorLines 0 (pairs xs)))
+      go : (x : Lines) → ((r : Refusal) → x ≡ stopped r → RunRefused r (operations c) (factorLines (alwaysBent c) 0 (pairs xs)))
           → Class (finished (c .factors) x)
       go (through ls) f = kept (limitsOf (c .factors) (last ls)) refl
       go (stopped NoCodelist) f = absurd (f NoCodelist refl)
@@ -114,7 +114,7 @@ module _ (c : Codelist) (xs : List ℤ) where
       go (kept l e) = absurd (not-rated (sym h ∙ e))
       go (turned-down q e t) = subst (RefusedFor c xs) (same-refusal (sym e ∙ h)) t
 
-  late-complete : Runnable c xs → (r : Refusal) → RunRefused r (operations c) (factorLines 0 (pairs xs)) → rateOf c xs ≡ refused r
+  late-complete : Runnable c xs → (r : Refusal) → RunRefused r (operations c) (factorLines (alwaysBent c) 0 (pairs xs)) → rateOf c xs ≡ refused r
   late-complete t r s = ran t ∙ ap (finished (c .factors)) (run-iff t r .1 s)
 
   refused-complete : (r : Refusal) → RefusedFor c xs r → rateOf c xs ≡ refused r

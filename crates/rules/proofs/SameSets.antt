@@ -11,7 +11,7 @@ use Rattle.codelist.specs.declared.Entry.{Entry}
 use Rattle.range.specs.declared.Range.{Range}
 use Rattle.rules.specs.declared.Line.{Line}
 use Rattle.rules.specs.Table.{factorRow, addRow, addcRow, mulcRow, mulRow, powRow, invRow, lineOf}
-use Rattle.rules.specs.Run.{noLine, line, rowOf, through, runOps, factorLines, operations, linesOf}
+use Rattle.rules.specs.Run.{noLine, line, rowOf, through, runOps, factorLines, alwaysBent, operations, linesOf}
 use Rattle.rules.specs.Rate.{last, limitsOf, pairs}
 use Rattle.rules.specs.SameSets.{SameSetsRating}
 use Rattle.rules.proofs.Along.{at-turn}
@@ -53,19 +53,19 @@ module _ {ls ms : List Line} (r : AlikeLines ls ms) where
   alike-next : (o : Op) → Alike (lineOf (rowOf o ls)) (lineOf (rowOf o ms))
   unfolding rowOf lineOf addRow addcRow mulcRow mulRow powRow invRow
   alike-next (Add i j) = record { support = rw (of i .support, of j .support); nonlinear = rw (of i .nonlinear, of j .nonlinear) }
-  alike-next (Mul i j) = record { support = rw (of i .support, of j .support); nonlinear = rw (of i .support, of j .support) }
+  alike-next (Mul i j) = record { support = rw (of i .support, of j .support); nonlinear = rw (of i .support, of i .nonlinear, of j .support, of j .nonlinear) }
   alike-next (AddC i c) = record { support = of i .support; nonlinear = of i .nonlinear }
   alike-next (MulC i c) = record { support = of i .support; nonlinear = of i .nonlinear }
-  alike-next (Pow i m) = record { support = of i .support; nonlinear = of i .support }
-  alike-next (Inv i) = record { support = of i .support; nonlinear = of i .support }
+  alike-next (Pow i m) = record { support = of i .support; nonlinear = rw (of i .support, of i .nonlinear) }
+  alike-next (Inv i) = record { support = of i .support; nonlinear = rw (of i .support, of i .nonlinear) }
 
 -- ---- the run
-alike-factors : (i : ℕ) (rs qs : List Range) → length rs ≡ length qs → AlikeLines (factorLines i rs) (factorLines i qs)
+alike-factors : (f i : ℕ) (rs qs : List Range) → length rs ≡ length qs → AlikeLines (factorLines f i rs) (factorLines f i qs)
 unfolding factorLines factorRow lineOf
-alike-factors i [] [] e = nil
-alike-factors i [] (q ∷ qs) e = absurd (omega arith)
-alike-factors i (r ∷ rs) [] e = absurd (omega arith)
-alike-factors i (r ∷ rs) (q ∷ qs) e = cons (record { support = refl; nonlinear = refl }) (alike-factors (suc i) rs qs (omega arith))
+alike-factors f i [] [] e = nil
+alike-factors f i [] (q ∷ qs) e = absurd (omega arith)
+alike-factors f i (r ∷ rs) [] e = absurd (omega arith)
+alike-factors f i (r ∷ rs) (q ∷ qs) e = cons (record { support = refl; nonlinear = refl }) (alike-factors f (suc i) rs qs (omega arith))
 
 alike-run : (os : List Entry) {ls ms us vs : List Line} → AlikeLines ls ms → runOps os ls ≡ through us → runOps os ms ≡ through vs
     → AlikeLines us vs
@@ -78,5 +78,5 @@ unfolding linesOf limitsOf
 same-sets c xs ys l m e f =
     let A = accepted c xs l e in
     let B = accepted c ys m f in
-    let r = alike-last (alike-run (operations c) (alike-factors 0 (pairs xs) (pairs ys) (A .count ∙ sym (B .count))) (A .ran) (B .ran)) in
+    let r = alike-last (alike-run (operations c) (alike-factors (alwaysBent c) 0 (pairs xs) (pairs ys) (A .count ∙ sym (B .count))) (A .ran) (B .ran)) in
     rw (A .limits, B .limits) (record { support = r .support; nonlinear = r .nonlinear })

@@ -21,16 +21,15 @@ use Rattle.rules.specs.declared.Line.{Line}
 use Rattle.rules.specs.declared.Limits.{Limits}
 use Rattle.rules.specs.Sets.{_∪_, apart}
 use Rattle.rules.specs.Table.{factorRow, addRow, addcRow, mulcRow, mulRow, powRow, invRow, lineOf}
-use Rattle.rules.specs.Run.{line, rowOf, within}
+use Rattle.rules.specs.Run.{line, rowOf, alwaysBent, within}
 use Rattle.rules.specs.Rate.{last, limitsOf, rated, pairs, rateOf}
 use Rattle.rules.specs.Exact.{Point, Jet}
 use Rattle.rules.specs.Promises.{ShapedRating}
-use Rattle.rules.proofs.Members.{left-in, out-none, in-single, below-part}
+use Rattle.rules.proofs.Members.{_⊆_, ⊆-union, left-in, out-none, in-single}
 use Rattle.rules.proofs.Enclosed.{spectrum-valid}
 use Rattle.rules.proofs.Along.{Along, along-line, Kept}
 use Rattle.rules.proofs.Accepted.{accepted, last-line}
-use Rattle.rules.proofs.Sparse.{product-zero, support-below, gradient-outside, gradient-beyond}
-use Rattle.rules.proofs.Nested.{nested-sets}
+use Rattle.rules.proofs.Sparse.{product-zero, support-below, nonlinear-below, gradient-outside, gradient-beyond}
 
 pub record Flat (l : Line) : Type 0 where
   pub factor : ℕ
@@ -47,12 +46,12 @@ module _ (s t : ℕ) (e : s ∪ t ≡ 0) where
 
 -- ---- the table
 -- a line that is bent in all that it depends on
-bent-flat : (l : Line) (a : ℕ) → T (has (l .support) a) → l .nonlinear ≡ l .support → Flat l
-bent-flat l a t e = record { factor = a; depends = t; flat = λ n. let z : l .support ≡ 0 = sym e ∙ n in absurd (out-none a (rw z at t)) }
+bent-flat : (l : Line) (a : ℕ) → T (has (l .support) a) → l .support ⊆ l .nonlinear → Flat l
+bent-flat l a t i = record { factor = a; depends = t; flat = λ n. absurd (out-none a (rw n at (i .into a t))) }
 
-pub factor-flat : (i : ℕ) (r : Range) → Flat (lineOf (factorRow i r))
+pub factor-flat : (f i : ℕ) (r : Range) → Flat (lineOf (factorRow f i r))
 unfolding factorRow lineOf
-factor-flat i r = record { factor = i; depends = in-single i; flat = λ n. refl }
+factor-flat f i r = record { factor = i; depends = in-single i; flat = λ n. refl }
 
 module _ {l : Line} (h : Flat l) where
   pub addc-flat : (c : ℤ) → Flat (lineOf (addcRow l c))
@@ -69,11 +68,11 @@ module _ {l : Line} (h : Flat l) where
 
   pub pow-flat : (m : ℕ) → Flat (lineOf (powRow l m))
   unfolding powRow lineOf
-  pow-flat m = bent-flat (lineOf (powRow l m)) (h .factor) (h .depends) refl
+  pow-flat m = bent-flat (lineOf (powRow l m)) (h .factor) (h .depends) (left-in (l .support) (l .nonlinear))
 
   pub inv-flat : Flat (lineOf (invRow l))
   unfolding invRow lineOf
-  inv-flat = bent-flat (lineOf (invRow l)) (h .factor) (h .depends) refl
+  inv-flat = bent-flat (lineOf (invRow l)) (h .factor) (h .depends) (left-in (l .support) (l .nonlinear))
 
 module _ {l m : Line} (h : Flat l) (k : Flat m) where
   both : T (has (l .support ∪ m .support) (h .factor))
@@ -92,7 +91,7 @@ module _ {l m : Line} (h : Flat l) (k : Flat m) where
 
   pub mul-flat : Flat (lineOf (mulRow l m))
   unfolding mulRow lineOf
-  mul-flat = bent-flat (lineOf (mulRow l m)) (h .factor) both refl
+  mul-flat = bent-flat (lineOf (mulRow l m)) (h .factor) both (⊆-union (left-in (l .support) (l .nonlinear)) (left-in (m .support) (m .nonlinear)))
 
 -- ---- the limits
 abbrev pub FlatLine : (Point → Option Jet) → Line → Type 0
@@ -116,7 +115,7 @@ flat-kept = record { next = λ o f r t. flat-next r o f t }
 
 module _ (c : Codelist) (xs : List ℤ) (l : Limits) (e : rateOf c xs ≡ rated l) where
   last-flat : Flat (last (accepted c xs l e .lines))
-  last-flat = last-line FlatLine flat-kept (accepted c xs l e) (λ a k. factor-flat a (at (pairs xs) a))
+  last-flat = last-line FlatLine flat-kept (accepted c xs l e) (λ a k. factor-flat (alwaysBent c) a (at (pairs xs) a))
 
   spectrum-empty : l .nonlinear ≡ 0 → l .spectrum ≡ zeroRange
   unfolding limitsOf
@@ -128,5 +127,5 @@ shaped c xs l e = record {
   outside-support = gradient-outside c xs l e;
   empty-nonlinear = spectrum-empty c xs l e;
   support-factors = support-below c xs l e .below;
-  nonlinear-factors = below-part (nested-sets c xs l e) (support-below c xs l e) .below;
+  nonlinear-factors = nonlinear-below c xs l e .below;
 }

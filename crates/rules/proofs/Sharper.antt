@@ -27,25 +27,23 @@ use Rattle.range.proofs.Sharper.{⊑-trans, hull-left-wider, hull-right-wider, 
 use Rattle.rules.specs.declared.Line.{Line}
 use Rattle.rules.specs.Formula.{Formula, given, _⊗_, sticky}
 use Rattle.rules.specs.Sets.{_∪_, apart, isSingle, only}
-use Rattle.rules.specs.Table.{extended, spectrumOfSum, productSpectrum, singles, starSpectrum}
-use Rattle.rules.specs.Run.{line, through, linesOf}
+use Rattle.rules.specs.Table.{reach, extended, spectrumOfSum, productSpectrum, singles, starSpectrum}
+use Rattle.rules.specs.Run.{line, through, alwaysBent, linesOf}
 use Rattle.rules.specs.Sharper.{NeverWider}
-use Rattle.rules.proofs.Members.{_⊆_, left-in, in-either, out-none}
+use Rattle.rules.proofs.Members.{outside, left-in, right-in, in-either, out-none}
 use Rattle.rules.proofs.SetTests.{Only, single-only, apart-disjoint, disjoint-apart, apart-comm}
 use Rattle.rules.proofs.Along.{along-line}
 use Rattle.rules.proofs.Accepted.{run-lines}
-use Rattle.rules.proofs.Sparse.{SparseLine, product-zero, factor-sparse, sparse-kept}
+use Rattle.rules.proofs.Sparse.{SparseLine, reach-few, product-zero, always-few, factor-sparse, sparse-kept}
 use Rattle.rules.proofs.Shaped.{FlatLine, factor-flat, flat-kept}
-use Rattle.rules.proofs.Nested.{NestedLine, factor-nested, nested-kept}
 use Rattle.rules.proofs.Exchanged.{star-exchanged, product-exchanged}
 use Rattle.rules.proofs.SharperCross.{around-cross}
 
 -- what is known of a line
 record Shape (l : Line) : Type 0 where
-  small : l .support < 256
-  zero : (a : ℕ) → a < 8 → ¬ T (has (l .support) a) → at (l .gradient) a ≡ zeroRange
+  small : reach l < 256
+  zero : (a : ℕ) → a < 8 → ¬ T (has (reach l) a) → at (l .gradient) a ≡ zeroRange
   flat : l .nonlinear ≡ 0 → l .spectrum ≡ zeroRange
-  nested : l .nonlinear ⊆ l .support
 
 -- ---- lift and join hold their operands
 lift-wider : (x : Formula) (b c : ℕ) → sticky x ⊑ sticky (extended x b c)
@@ -63,24 +61,24 @@ none-apart t = refl
 record Two (x y : Line) : Type 0 where
   first : Shape x
   second : Shape y
-  one : Only (x .support)
-  other : Only (y .support)
-  apart : T (apart (x .support) (y .support))
+  one : Only (reach x)
+  other : Only (reach y)
+  apart : T (apart (reach x) (reach y))
   valid : T (isValid (sticky (starSpectrum x y)))
   half : Halves (productOf (y .value) (x .spectrum)) (productOf (x .value) (y .spectrum))
-      (productOf (at (x .gradient) (only (x .support))) (at (y .gradient) (only (y .support))))
+      (productOf (at (x .gradient) (only (reach x))) (at (y .gradient) (only (reach y))))
 
 two : {x y : Line} → Shape x → Shape y → T (singles x y) → T (isValid (sticky (starSpectrum x y))) → Two x y
 unfolding starOf
 two {x} {y} X Y t v =
-    let u = and-right (isSingle (x .support)) _ t in
-    let r = and-right (isSingle (y .support)) _ u in
+    let u = and-right (isSingle (reach x)) _ t in
+    let r = and-right (isSingle (reach y)) _ u in
     record {
       first = X;
       second = Y;
-      one = single-only (x .support) (X .small) (and-left (isSingle (x .support)) _ t);
-      other = single-only (y .support) (Y .small) (and-left (isSingle (y .support)) _ u);
-      apart = and-left (apart (x .support) (y .support)) _ r;
+      one = single-only (reach x) (X .small) (and-left (isSingle (reach x)) _ t);
+      other = single-only (reach y) (Y .small) (and-left (isSingle (reach y)) _ u);
+      apart = and-left (apart (reach x) (reach y)) _ r;
       valid = v;
       half = halves _ _ _ (if-valid (areHalf _ _ _) _ v .0);
     }
@@ -92,13 +90,13 @@ exchanged {x} {y} P = record {
   second = P .first;
   one = P .other;
   other = P .one;
-  apart = subst T (apart-comm (x .support) (y .support)) (P .apart);
+  apart = subst T (apart-comm (reach x) (reach y)) (P .apart);
   valid = subst (λ r. T (isValid r)) (star-exchanged x y) (P .valid);
   half = record {
     first = P .half .second;
     second = P .half .first;
     third =
-        subst (λ r. T (isHalf r)) (laws .symmetry .product (at (x .gradient) (only (x .support))) (at (y .gradient) (only (y .support))))
+        subst (λ r. T (isHalf r)) (laws .symmetry .product (at (x .gradient) (only (reach x))) (at (y .gradient) (only (reach y))))
         (P .half .third);
   };
 }
@@ -117,23 +115,23 @@ module _ {x y : Line} (P : Two x y) where
   bent = x .nonlinear ∪ y .nonlinear
 
   abbrev s : ℕ
-  s = x .support ∪ y .support
+  s = reach x ∪ reach y
 
   abbrev lifted : Range
   lifted = sticky (extended join bent s)
 
-  disjoint : (a : ℕ) → T (has (x .support) a) → ¬ T (has (y .support) a)
-  disjoint = apart-disjoint (x .support) (y .support) (P .apart)
+  disjoint : (a : ℕ) → T (has (reach x) a) → ¬ T (has (reach y) a)
+  disjoint = apart-disjoint (reach x) (reach y) (P .apart)
 
   -- what holds of both, holds of their hull; and the rule is inside
   from-lifted : (sticky A ⊑ lifted) × (sticky B ⊑ lifted) → sticky (starSpectrum x y) ⊑ sticky (productSpectrum x y)
   from-lifted (l, r) =
       let X = P .first in
       let Y = P .second in
-      let C = productOf (at (x .gradient) (only (x .support))) (at (y .gradient) (only (y .support))) in
+      let C = productOf (at (x .gradient) (only (reach x))) (at (y .gradient) (only (reach y))) in
       ⊑-trans (star-sharper (sticky A) (sticky B) C (P .valid))
       (laws .isotonicity .sum
-      (around-cross (P .one) (P .other) disjoint (x .gradient) (y .gradient) (X .zero) (Y .zero) (or-lt 8 (x .support) (y .support) (X .small) (Y .small))
+      (around-cross (P .one) (P .other) disjoint (x .gradient) (y .gradient) (X .zero) (Y .zero) (or-lt 8 (reach x) (reach y) (X .small) (Y .small))
       C refl (half-valid C (P .half .third)) (magnitude-nonneg C (P .half .third)))
       (hull-least l r))
 
@@ -154,12 +152,12 @@ module _ {x y : Line} (P : Two x y) where
       -- the factor of x is not in the bent set
       smaller : eqb bent s ≡ false
       smaller = not-true (λ t.
-          let a = only (x .support) in
-          let k = left-in (x .support) (y .support) .into a (P .one .member) in
+          let a = only (reach x) in
+          let k = left-in (reach x) (reach y) .into a (P .one .member) in
           let m : T (has bent a) = subst (λ c. T (has c a)) (sym (eqb→eq bent s t)) k in
           ⊎-elim
           (λ k. out-none a (subst (λ c. T (has c a)) e k))
-          (λ k. disjoint a (P .one .member) (P .second .nested .into a k))
+          (λ k. disjoint a (P .one .member) (right-in (y .support) (y .nonlinear) .into a k))
           (in-either (x .nonlinear) (y .nonlinear) a m))
 
   both-bent : T (apart (x .nonlinear) (y .nonlinear)) → (sticky A ⊑ lifted) × (sticky B ⊑ lifted)
@@ -187,19 +185,18 @@ sharper {x} {y} X Y t v = go (ℕ-discrete (x .nonlinear) 0) (ℕ-discrete (y .n
     go (no f) (yes e) = rw (star-exchanged x y, product-exchanged x y) (flat-sharper (exchanged P) e)
     go (no f) (no g) =
         from-lifted P (both-bent P (disjoint-apart (x .nonlinear) (y .nonlinear) f g
-        (λ a m k. disjoint P a (X .nested .into a m) (Y .nested .into a k))))
+        (λ a m k. disjoint P a (right-in (x .support) (x .nonlinear) .into a m) (right-in (y .support) (y .nonlinear) .into a k))))
 
 -- ---- a run
 module _ (c : Codelist) (rs : List Range) (ls : List Line) (w : Ratable c) (n : length rs ≡ c .factors) (e : linesOf c rs ≡ through ls) where
   shape : (i : ℕ) → Earlier (length ls) i → Shape (line ls i)
   shape i k =
       let S = along-line (SparseLine (c .factors)) i k
-      (run-lines (SparseLine (c .factors)) (sparse-kept (c .factors)) rs w n e (λ a h. factor-sparse (at rs a) h)) in
+      (run-lines (SparseLine (c .factors)) (sparse-kept (c .factors)) rs w n e (λ a h. factor-sparse (at rs a) (always-few c) h)) in
       record {
-        small = omega (arith, S .few, pow-mono {i = c .factors} {j = 8} (w .factors .1));
-        zero = S .zero;
-        flat = along-line FlatLine i k (run-lines FlatLine flat-kept rs w n e (λ a h. factor-flat a (at rs a))) .flat;
-        nested = along-line NestedLine i k (run-lines NestedLine nested-kept rs w n e (λ a h. factor-nested a (at rs a)));
+        small = omega (arith, reach-few S, pow-mono {i = c .factors} {j = 8} (w .factors .1));
+        zero = λ a h o. S .zero a h (outside (left-in (line ls i .support) (line ls i .nonlinear)) a o);
+        flat = along-line FlatLine i k (run-lines FlatLine flat-kept rs w n e (λ a h. factor-flat (alwaysBent c) a (at rs a))) .flat;
       }
 
 -- THE NEW E IS NEVER WIDER

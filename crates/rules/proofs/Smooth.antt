@@ -33,12 +33,12 @@ pub record Smooth (d : ℕ → ℚ) (x : ℚ → Jet) (l : Line) : Type 0 where
 module _ {d : ℕ → ℚ} where
   -- ---- the table
   -- a factor, on points that go straight ahead in it
-  pub factor-smooth : (p : ℚ → Point) (a : ℚ) (i : ℕ) (r : Range) → i < 8
+  pub factor-smooth : (f : ℕ) (p : ℚ → Point) (a : ℚ) (i : ℕ) (r : Range) → i < 8
       → ((τ : ℚ) → Moment ℚ-ordered τ → coordinate (p τ) i ≡ a +ℚ τ *ℚ d i)
-      → ((τ : ℚ) → Moment ℚ-ordered τ → InRange (coordinate (p τ) i) r) → Smooth d (λ τ. factorJet (p τ) i) (lineOf (factorRow i r))
+      → ((τ : ℚ) → Moment ℚ-ordered τ → InRange (coordinate (p τ) i) r) → Smooth d (λ τ. factorJet (p τ) i) (lineOf (factorRow f i r))
   unfolding factorJet
-  factor-smooth p a i r k e b = record {
-    enclosed = λ τ m. factor-enclosed (p τ) i r (b τ m);
+  factor-smooth f p a i r k e b = record {
+    enclosed = λ τ m. factor-enclosed f (p τ) i r (b τ m);
     first = derivative-eq ℚ-ordered (D.derivative-line ℚ-ordered a (d i)) (λ τ m. sym (e τ m)) (λ τ m. sym (dot-unit ℚ-ring 8 d k));
   }
 

@@ -17,7 +17,7 @@ use Rattle.range.specs.Sums.{at}
 use Rattle.rules.specs.declared.Line.{Line}
 use Rattle.rules.specs.declared.Limits.{Limits}
 use Rattle.rules.specs.Table.{lineOf}
-use Rattle.rules.specs.Run.{line, rowOf, within}
+use Rattle.rules.specs.Run.{line, rowOf, alwaysBent, within}
 use Rattle.rules.specs.Rate.{last, pairs}
 use Rattle.rules.specs.Exact.{Point, coordinate, Jet, factorJet, addJet, addcJet, mulcJet, mulJet, powJet, invJet, using1, using2}
 use Rattle.rules.specs.Exact.{invert, jet, exactNext, premiumOf}
@@ -101,7 +101,7 @@ smooth-premium {c} {xs} A p q i j =
       given = λ τ. factorJet (w τ) a;
       is = λ τ m. refl;
       smooth =
-          factor-smooth w (coordinate p a) a (at (pairs xs) a) (omega (arith, A .codelist .factors .1))
+          factor-smooth (alwaysBent c) w (coordinate p a) a (at (pairs xs) a) (omega (arith, A .codelist .factors .1))
           (λ τ m. way-at n p q τ a k)
           (λ τ m. way-inside i j τ m .each a k);
     })

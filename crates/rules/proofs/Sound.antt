@@ -22,14 +22,15 @@ use Rattle.rules.specs.declared.Limits.{Limits}
 use Rattle.rules.specs.Formula.{given}
 use Rattle.rules.specs.Sets.{allOf}
 use Rattle.rules.specs.Table.{factorRow, lineOf}
-use Rattle.rules.specs.Run.{within}
+use Rattle.rules.specs.Run.{alwaysBent, within}
 use Rattle.rules.specs.Rate.{last, limitsOf, pairs}
 use Rattle.rules.specs.Exact.{Point, factorJet, premiumOf}
 use Rattle.rules.specs.Promises.{Inside, entry, quadratic, squaresIn, squaresAll, Between, HasValue, Sound, SoundRating}
-use Rattle.rules.proofs.Members.{Below, beyond, below-power, below-part, below-all, below-allOf, in-all}
+use Rattle.rules.proofs.Members.{Below, beyond, below-power, below-all, below-allOf, in-all}
 use Rattle.rules.proofs.InnerProducts.{weight}
 use Rattle.rules.proofs.SpectrumSum.{extended-valid, extended-bounded}
 use Rattle.rules.proofs.Independent.{Given, given-some}
+use Rattle.rules.proofs.Sparse.{always-few}
 use Rattle.rules.proofs.Enclosed.{spectrum-valid}
 use Rattle.rules.proofs.Along.{along-each}
 use Rattle.rules.proofs.Accepted.{Accepted, accepted, every-line, last-line}
@@ -72,9 +73,9 @@ module _ {c : Codelist} {xs : List ℤ} {l : Limits} (A : Accepted c xs l) (p : 
   few = A .codelist .factors .1
 
   factor : (q : Point) (a : ℕ) → a < c .factors
-      → WholeLine n p q (λ p. some (factorJet p a)) (lineOf (factorRow a (at (pairs xs) a)))
+      → WholeLine n p q (λ p. some (factorJet p a)) (lineOf (factorRow (alwaysBent c) a (at (pairs xs) a)))
   unfolding n
-  factor q a k = given-some (whole-factor n few p q a (at (pairs xs) a) k (i .each a k))
+  factor q a k = given-some (whole-factor n few p q (alwaysBent c) a (at (pairs xs) a) (always-few c) k (i .each a k))
 
   -- the exact premium, and what holds of it and the last line beside another point
   premium : (q : Point) → Given (λ x. Whole n p q x (premiumOf c q) result) (premiumOf c p)
@@ -116,7 +117,7 @@ module _ {c : Codelist} {xs : List ℤ} {l : Limits} (A : Accepted c xs l) (p : 
       H = premium p .given .second
 
       small : Below n b
-      small = below-part (W .supported .inside) (below-power n (result .support) (W .sparse .few))
+      small = below-power n (result .nonlinear) (W .sparse .bent)
 
       vanishes : (a d : ℕ) → ¬ T (has b a) → (H a d ≡ 0ℚ) × (H d a ≡ 0ℚ)
       vanishes a d o = (W .supported .second a d o, W .supported .symmetric d a ∙ W .supported .second a d o)

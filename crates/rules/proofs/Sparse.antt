@@ -9,7 +9,7 @@ use lib.Bits.{or-lt}
 use lib.Dec.{T, eqb, eqb→eq}
 use lib.IntN.{ℤ, pos, *ℤ-zero}
 use lib.ListN.{length}
-use lib.Pow.{pow-lt}
+use lib.Pow.{pow-lt, pow-pos}
 use Rattle.codelist.specs.declared.Op.{Op}
 use Rattle.codelist.specs.declared.Op.the-variants.{Add, Mul, AddC, MulC, Pow, Inv}
 use Rattle.codelist.specs.declared.Codelist.{Codelist}
@@ -23,9 +23,10 @@ use Rattle.range.proofs.Holds.{IfValid, sticky₁-holds, sticky₂-holds}
 use Rattle.rules.specs.declared.Line.{Line}
 use Rattle.rules.specs.declared.Limits.{Limits}
 use Rattle.rules.specs.Formula.{sticky}
-use Rattle.rules.specs.Sets.{_∪_}
-use Rattle.rules.specs.Table.{Row, factorRow, addRow, addcRow, mulcRow, mulRow, powRow, invRow, lineOf}
-use Rattle.rules.specs.Run.{line, rowOf, within}
+use Rattle.rules.specs.Sets.{none, allOf, _∪_}
+use native.Mathlib.Omega.{arith}
+use Rattle.rules.specs.Table.{Row, reach, factorRow, addRow, addcRow, mulcRow, mulRow, powRow, invRow, lineOf}
+use Rattle.rules.specs.Run.{line, rowOf, alwaysBent, within}
 use Rattle.rules.specs.Rate.{last, limitsOf, rated, pairs, rateOf}
 use Rattle.rules.specs.Exact.{Point, Jet}
 use Rattle.rules.proofs.Members.{outside, left-in, right-in, in-single, Below, beyond, below-power}
@@ -35,6 +36,7 @@ use Rattle.rules.proofs.Accepted.{accepted, last-line}
 
 pub record Sparse (n : ℕ) (l : Line) : Type 0 where
   pub few : l .support < 2 ^ n
+  pub bent : l .nonlinear < 2 ^ n
   pub zero : (a : ℕ) → a < 8 → ¬ T (has (l .support) a) → at (l .gradient) a ≡ zeroRange
 
 -- ---- operations on zero
@@ -58,20 +60,22 @@ unfolding productOf endsProduct floorDiv ceilDiv
 product-zero a {b} h = sticky₂-holds Zero endsProduct a b (λ t u. rw (h u, *ℤ-zero (a .low), *ℤ-zero (a .high)))
 
 -- ---- the table
-sparse : {n : ℕ} (r : Row) → T (within (lineOf r)) → r .support < 2 ^ n
+sparse : {n : ℕ} (r : Row) → T (within (lineOf r)) → r .support < 2 ^ n → r .nonlinear < 2 ^ n
     → ((a : ℕ) → a < 8 → ¬ T (has (r .support) a) → IfValid Zero (sticky (r .slope a))) → Sparse n (lineOf r)
 unfolding lineOf
-sparse r t f z = record {
+sparse r t f b z = record {
   few = f;
+  bent = b;
   zero = λ a k o.
       let e : at (lineOf r .gradient) a ≡ sticky (r .slope a) = at-eight (λ a. sticky (r .slope a)) a k in
       e ∙ z a k o (rw e at (gradient-valid (lineOf r) t a));
 }
 
-pub factor-sparse : {n i : ℕ} (r : Range) → i < n → Sparse n (lineOf (factorRow i r))
+pub factor-sparse : {n f i : ℕ} (r : Range) → f < 2 ^ n → i < n → Sparse n (lineOf (factorRow f i r))
 unfolding factorRow lineOf
-factor-sparse {n} {i} r h = record {
+factor-sparse {n} {f} {i} r b h = record {
   few = pow-lt {i = i} {j = n} h;
+  bent = b;
   zero = λ a k o. at-eight (λ a. cond (eqb a i) oneRange zeroRange) a k ∙ other (eqb a i) (λ t. o (rw (eqb→eq a i t) (in-single i)));
 }
   where
@@ -83,21 +87,24 @@ module _ {n : ℕ} {l : Line} (h : Sparse n l) where
   zero-slope : (a : ℕ) → a < 8 → ¬ T (has (l .support) a) → IfValid Zero (at (l .gradient) a)
   zero-slope a k o t = h .zero a k o
 
+  pub reach-few : reach l < 2 ^ n
+  reach-few = or-lt n (l .support) (l .nonlinear) (h .few) (h .bent)
+
   pub addc-sparse : (c : ℤ) → T (within (lineOf (addcRow l c))) → Sparse n (lineOf (addcRow l c))
   unfolding addcRow
-  addc-sparse c t = sparse (addcRow l c) t (h .few) zero-slope
+  addc-sparse c t = sparse (addcRow l c) t (h .few) (h .bent) zero-slope
 
   pub mulc-sparse : (c : ℤ) → T (within (lineOf (mulcRow l c))) → Sparse n (lineOf (mulcRow l c))
   unfolding mulcRow
-  mulc-sparse c t = sparse (mulcRow l c) t (h .few) (λ a k o. product-zero (fromTo c c) (zero-slope a k o))
+  mulc-sparse c t = sparse (mulcRow l c) t (h .few) (h .bent) (λ a k o. product-zero (fromTo c c) (zero-slope a k o))
 
   pub pow-sparse : (m : ℕ) → T (within (lineOf (powRow l m))) → Sparse n (lineOf (powRow l m))
   unfolding powRow
-  pow-sparse m t = sparse (powRow l m) t (h .few) (λ a k o. times-zero m (product-zero _ (zero-slope a k o)))
+  pow-sparse m t = sparse (powRow l m) t (h .few) reach-few (λ a k o. times-zero m (product-zero _ (zero-slope a k o)))
 
   pub inv-sparse : T (within (lineOf (invRow l))) → Sparse n (lineOf (invRow l))
   unfolding invRow
-  inv-sparse t = sparse (invRow l) t (h .few) (λ a k o. neg-zero (product-zero _ (zero-slope a k o)))
+  inv-sparse t = sparse (invRow l) t (h .few) reach-few (λ a k o. neg-zero (product-zero _ (zero-slope a k o)))
 
 module _ {n : ℕ} {l m : Line} (h : Sparse n l) (k : Sparse n m) where
   few-both : (l .support ∪ m .support) < 2 ^ n
@@ -111,15 +118,19 @@ module _ {n : ℕ} {l m : Line} (h : Sparse n l) (k : Sparse n m) where
 
   pub add-sparse : T (within (lineOf (addRow l m))) → Sparse n (lineOf (addRow l m))
   unfolding addRow
-  add-sparse t = sparse (addRow l m) t few-both (λ a i o. sum-zero (left-slope a i o) (right-slope a i o))
+  add-sparse t = sparse (addRow l m) t few-both (or-lt n (l .nonlinear) (m .nonlinear) (h .bent) (k .bent)) (λ a i o. sum-zero (left-slope a i o) (right-slope a i o))
 
   pub mul-sparse : T (within (lineOf (mulRow l m))) → Sparse n (lineOf (mulRow l m))
   unfolding mulRow
   mul-sparse t =
-      sparse (mulRow l m) t few-both
+      sparse (mulRow l m) t few-both (or-lt n (reach l) (reach m) (reach-few h) (reach-few k))
       (λ a i o. sum-zero (product-zero (l .value) (right-slope a i o)) (product-zero (m .value) (left-slope a i o)))
 
 -- ---- the limits
+pub always-few : (c : Codelist) → alwaysBent c < 2 ^ c .factors
+unfolding alwaysBent
+always-few c = pow-pos (c .factors)
+
 abbrev pub SparseLine : ℕ → (Point → Option Jet) → Line → Type 0
 SparseLine n o l = Sparse n l
 
@@ -144,11 +155,15 @@ module _ (c : Codelist) (xs : List ℤ) (l : Limits) (e : rateOf c xs ≡ rated 
   last-sparse : Sparse (c .factors) (last (accepted c xs l e .lines))
   last-sparse =
       last-line (SparseLine (c .factors)) (sparse-kept (c .factors)) (accepted c xs l e)
-      (λ a k. factor-sparse (at (pairs xs) a) k)
+      (λ a k. factor-sparse (at (pairs xs) a) (always-few c) k)
 
   pub support-below : Below (c .factors) (l .support)
   unfolding limitsOf
   support-below = rw (accepted c xs l e .limits) (below-power (c .factors) _ (last-sparse .few))
+
+  pub nonlinear-below : Below (c .factors) (l .nonlinear)
+  unfolding limitsOf
+  nonlinear-below = rw (accepted c xs l e .limits) (below-power (c .factors) _ (last-sparse .bent))
 
   -- the gradient is zero outside the support, and so is each pair beyond the last factor
   pub gradient-outside : (a : ℕ) → a < 8 → ¬ T (has (l .support) a) → at (l .gradient) a ≡ zeroRange

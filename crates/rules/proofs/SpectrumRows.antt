@@ -22,10 +22,10 @@ use Rattle.range.proofs.Bounded.{Bounded, bounded-eq, either-bounded, zero-boun
 use Rattle.range.proofs.InclusionPower.{power-∈}
 use Rattle.rules.specs.declared.Line.{Line}
 use Rattle.rules.specs.Formula.{given, sticky}
-use Rattle.rules.specs.Sets.{none, _∪_, apart, isSingle, only}
-use Rattle.rules.specs.Table.{extended, squareSpectrum, productSpectrum, singles, starSpectrum, factorRow, addRow, addcRow, mulcRow, mulRow, powRow, invRow, lineOf}
+use Rattle.rules.specs.Sets.{_∪_, apart, isSingle, only}
+use Rattle.rules.specs.Table.{reach, extended, squareSpectrum, productSpectrum, singles, starSpectrum, factorRow, addRow, addcRow, mulcRow, mulRow, powRow, invRow, lineOf}
 use Rattle.rules.specs.Exact.{Point, Jet, factorJet, addJet, addcJet, mulcJet, mulJet, powJet, invJet}
-use Rattle.rules.proofs.Members.{_⊆_, ⊆-refl, ⊆-trans, left-in, right-in, union-in, outside}
+use Rattle.rules.proofs.Members.{_⊆_, ⊆-trans, ⊆-union, left-in, right-in, outside}
 use Rattle.rules.proofs.InnerProducts.{weight, weight-nonneg}
 use Rattle.rules.proofs.Forms as Forms
 use Rattle.rules.proofs.SpectrumSum.{extended-bounded, spectrumOfSum-bounded}
@@ -50,9 +50,8 @@ pub record Known (l : Line) (j : Jet) : Type 0 where
   pub value : j .value ∈ l .value
   pub gradient : (a : ℕ) → a < 8 → j .first a ∈ at (l .gradient) a
   pub outside-support : (a : ℕ) → ¬ T (has (l .support) a) → j .first a ≡ 0ℚ
-  pub nonlinear-in : l .nonlinear ⊆ l .support
   pub flat : l .nonlinear ≡ 0 → l .spectrum ≡ zeroRange
-  pub small : l .support < 256
+  pub small : reach l < 256
 
 -- the gradient of a line, over its support or a larger set
 gradient-over : {l : Line} {j : Jet} {s : ℕ} → Known l j → l .support ⊆ s → s < 256 → Gradient s (l .gradient) (j .first)
@@ -64,9 +63,9 @@ gradient-over K i small = record {
 
 -- ════ the rows ════
 
-pub factor-curved : (p : Point) (i : ℕ) (r : Range) → Curved (lineOf (factorRow i r)) (factorJet p i)
+pub factor-curved : (f : ℕ) (p : Point) (i : ℕ) (r : Range) → Curved (lineOf (factorRow f i r)) (factorJet p i)
 unfolding lineOf factorRow factorJet
-factor-curved p i r = record { curved = λ v. bounded-eq (zero-bounded (weight none v)) (sym (Form.form-zero ℚ-ring 8 v (λ a b. refl))) }
+factor-curved f p i r = record { curved = λ v. bounded-eq (zero-bounded (weight f v)) (sym (Form.form-zero ℚ-ring 8 v (λ a b. refl))) }
 
 pub add-curved : {x y : Line} {j k : Jet} → Curved x j → Curved y k → Curved (lineOf (addRow x y)) (addJet j k)
 unfolding lineOf addRow addJet
@@ -92,40 +91,40 @@ mulc-curved {x} {j} c X = record {
 
 -- what the rules of mul bound
 module _ {x y : Line} {j k : Jet} (K : Known x j) (L : Known y k) (X : Curved x j) (Y : Curved y k) where
-  product-spectrum-bounded : (v : ℕ → ℚ) → Bounded (weight (x .support ∪ y .support) v) (sticky (productSpectrum x y))
+  product-spectrum-bounded : (v : ℕ → ℚ) → Bounded (weight (reach x ∪ reach y) v) (sticky (productSpectrum x y))
       (num 2 *ℚ dot v (j .first) *ℚ dot v (k .first) +ℚ (k .value *ℚ form (j .second) v +ℚ j .value *ℚ form (k .second) v))
   product-spectrum-bounded v =
       sum-bounded
       (crossSpectrum-bounded (gradient-over K left small) (gradient-over L right small) v)
-      (extended-bounded (x .nonlinear ∪ y .nonlinear) (x .support ∪ y .support) v
-      (union-in (⊆-trans (K .nonlinear-in) left) (⊆-trans (L .nonlinear-in) right))
+      (extended-bounded (x .nonlinear ∪ y .nonlinear) (reach x ∪ reach y) v
+      (⊆-union (right-in (x .support) (x .nonlinear)) (right-in (y .support) (y .nonlinear)))
       (spectrumOfSum-bounded (x .nonlinear) (y .nonlinear) v
       (product-bounded (weight-nonneg (x .nonlinear) v) (L .value) (X .curved v))
       (product-bounded (weight-nonneg (y .nonlinear) v) (K .value) (Y .curved v))))
     where
-      left : x .support ⊆ x .support ∪ y .support
-      left = left-in (x .support) (y .support)
+      left : x .support ⊆ reach x ∪ reach y
+      left = ⊆-trans (left-in (x .support) (x .nonlinear)) (left-in (reach x) (reach y))
 
-      right : y .support ⊆ x .support ∪ y .support
-      right = right-in (x .support) (y .support)
+      right : y .support ⊆ reach x ∪ reach y
+      right = ⊆-trans (left-in (y .support) (y .nonlinear)) (right-in (reach x) (reach y))
 
-      small : (x .support ∪ y .support) < 256
-      small = or-lt 8 (x .support) (y .support) (K .small) (L .small)
+      small : (reach x ∪ reach y) < 256
+      small = or-lt 8 (reach x) (reach y) (K .small) (L .small)
 
-  star-spectrum-bounded : T (singles x y) → (v : ℕ → ℚ) → Bounded (weight (x .support ∪ y .support) v) (sticky (starSpectrum x y))
+  star-spectrum-bounded : T (singles x y) → (v : ℕ → ℚ) → Bounded (weight (reach x ∪ reach y) v) (sticky (starSpectrum x y))
       (num 2 *ℚ dot v (j .first) *ℚ dot v (k .first) +ℚ (k .value *ℚ form (j .second) v +ℚ j .value *ℚ form (k .second) v))
   star-spectrum-bounded t v =
-      let u = and-right (isSingle (x .support)) _ t in
-      let w = and-right (isSingle (y .support)) _ u in
-      let D = gradient-over K (⊆-refl (x .support)) (K .small) in
-      let F = gradient-over L (⊆-refl (y .support)) (L .small) in
-      let o = the-only D (and-left (isSingle (x .support)) _ t) in
-      let q = the-only F (and-left (isSingle (y .support)) _ u) in
-      starSpectrum-bounded D F o q (and-left (apart (x .support) (y .support)) _ w) v
-      (product-bounded (Ord.square-nonneg ℚ-ordered (v (only (x .support)))) (L .value) (over-only v (K .nonlinear-in) o (K .flat) (X .curved v)))
-      (product-bounded (Ord.square-nonneg ℚ-ordered (v (only (y .support)))) (K .value) (over-only v (L .nonlinear-in) q (L .flat) (Y .curved v)))
+      let u = and-right (isSingle (reach x)) _ t in
+      let w = and-right (isSingle (reach y)) _ u in
+      let D = gradient-over K (left-in (x .support) (x .nonlinear)) (K .small) in
+      let F = gradient-over L (left-in (y .support) (y .nonlinear)) (L .small) in
+      let o = the-only D (and-left (isSingle (reach x)) _ t) in
+      let q = the-only F (and-left (isSingle (reach y)) _ u) in
+      starSpectrum-bounded D F o q (and-left (apart (reach x) (reach y)) _ w) v
+      (product-bounded (Ord.square-nonneg ℚ-ordered (v (only (reach x)))) (L .value) (over-only v (right-in (x .support) (x .nonlinear)) o (K .flat) (X .curved v)))
+      (product-bounded (Ord.square-nonneg ℚ-ordered (v (only (reach y)))) (K .value) (over-only v (right-in (y .support) (y .nonlinear)) q (L .flat) (Y .curved v)))
 
-  mul-spectrum-bounded : (v : ℕ → ℚ) → Bounded (weight (x .support ∪ y .support) v) (sticky (mulRow x y .spectrum))
+  mul-spectrum-bounded : (v : ℕ → ℚ) → Bounded (weight (reach x ∪ reach y) v) (sticky (mulRow x y .spectrum))
       (num 2 *ℚ dot v (j .first) *ℚ dot v (k .first) +ℚ (k .value *ℚ form (j .second) v +ℚ j .value *ℚ form (k .second) v))
   unfolding mulRow
   mul-spectrum-bounded v = either-bounded (singles x y) (λ t. star-spectrum-bounded t v) (λ t. product-spectrum-bounded v)
@@ -141,19 +140,19 @@ module _ {x y : Line} {j k : Jet} (K : Known x j) (L : Known y k) (X : Curved x 
 
 -- pow and inv
 module _ {x : Line} {j : Jet} (K : Known x j) (X : Curved x j) where
-  square-bounded : (v : ℕ → ℚ) → Bounded (weight (x .support) v) (sticky (squareSpectrum (x .support) (x .gradient)))
+  square-bounded : (v : ℕ → ℚ) → Bounded (weight (reach x) v) (sticky (squareSpectrum (reach x) (x .gradient)))
       (dot v (j .first) *ℚ dot v (j .first))
-  square-bounded = squareSpectrum-bounded (gradient-over K (⊆-refl (x .support)) (K .small))
+  square-bounded = squareSpectrum-bounded (gradient-over K (left-in (x .support) (x .nonlinear)) (K .small))
 
   support-bounded : (v : ℕ → ℚ)
-      → Bounded (weight (x .support) v) (sticky (extended (given (x .spectrum)) (x .nonlinear) (x .support))) (form (j .second) v)
-  support-bounded v = extended-bounded (x .nonlinear) (x .support) v (K .nonlinear-in) (X .curved v)
+      → Bounded (weight (reach x) v) (sticky (extended (given (x .spectrum)) (x .nonlinear) (reach x))) (form (j .second) v)
+  support-bounded v = extended-bounded (x .nonlinear) (reach x) v (right-in (x .support) (x .nonlinear)) (X .curved v)
 
   pub pow-curved : (m : ℕ) → 2 ≤ m → Curved (lineOf (powRow x m)) (powJet j m)
   unfolding lineOf powRow powJet Ring.power
   pow-curved m two = record {
     curved = λ v.
-        let p = weight-nonneg (x .support) v in
+        let p = weight-nonneg (reach x) v in
         bounded-eq
         (times-bounded m
         (product-bounded p (power-∈ (m - 2) (K .value))
@@ -177,7 +176,7 @@ module _ {x : Line} {j : Jet} (K : Known x j) (X : Curved x j) where
   unfolding lineOf invRow invJet Ring.power
   inv-curved y h = record {
     curved = λ v.
-        let p = weight-nonneg (x .support) v in
+        let p = weight-nonneg (reach x) v in
         bounded-eq
         (product-bounded p (power-∈ 2 h)
         (sum-bounded (times-bounded 2 (product-bounded p h (square-bounded v))) (neg-bounded (support-bounded v))))

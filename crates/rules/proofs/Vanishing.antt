@@ -10,8 +10,9 @@ use Rattle.codelist.specs.declared.Op.the-variants.{Add, Mul, AddC, MulC, Pow, 
 use Rattle.codelist.specs.Codelist.{Earlier, WellFormedOp}
 use Rattle.exact.proofs.Rat.{ℚ, recip}
 use Rattle.rules.specs.declared.Line.{Line}
+use Rattle.rules.specs.Sets.{_∪_}
 use Rattle.rules.specs.Table.{factorRow, addRow, addcRow, mulcRow, mulRow, powRow, invRow, lineOf}
-use Rattle.rules.specs.Run.{line, rowOf}
+use Rattle.rules.specs.Run.{line, rowOf, alwaysBent}
 use Rattle.rules.specs.Rate.{last, limitsOf}
 use Rattle.rules.specs.Exact.{Point, Jet, addJet, addcJet, mulcJet, mulJet, powJet, using1, using2, invert, jet, exactNext}
 use Rattle.rules.specs.Promises.{VanishingRating}
@@ -44,7 +45,7 @@ module _ {P Q : Jet → Type 0} where
 abbrev SupportedLine : Point → (Point → Option Jet) → Line → Type 0
 SupportedLine p o l = IfThere (λ x. Supported x (l .support) (l .nonlinear)) (o p)
 
-inverted : {x : Jet} {p b : ℕ} → Supported x p b → (r : Option ℚ) → IfThere (λ y. Supported y p p) (invert x r)
+inverted : {x : Jet} {p b : ℕ} → Supported x p b → (r : Option ℚ) → IfThere (λ y. Supported y p (p ∪ b)) (invert x r)
 inverted h none = absent
 inverted h (some y) = there (inv-supported h y)
 
@@ -68,7 +69,7 @@ pub vanishing : VanishingRating
 unfolding limitsOf factorRow lineOf
 vanishing c xs l e p premium is =
     let A = accepted c xs l e in
-    let h = last-line (SupportedLine p) (supported-kept p) A (λ a k. there (factor-supported p a)) in
+    let h = last-line (SupportedLine p) (supported-kept p) A (λ a k. there (factor-supported (alwaysBent c) p a)) in
     let s : Supported premium (last (A .lines) .support) (last (A .lines) .nonlinear) = holds (rw is at h) in
     rw (A .limits)
     (record {

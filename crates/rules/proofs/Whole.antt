@@ -2,7 +2,7 @@
 use mathlib.Core.Path.{_≡_}
 use mathlib.Core.List.{List}
 use mathlib.Core.Option.{Option, none, some}
-use Prim.Native.Nat.{ℕ, _≤_, _<_}
+use Prim.Native.Nat.{ℕ, _^_, _≤_, _<_}
 use native.Mathlib.Omega.{arith}
 use lib.Dec.{T}
 use lib.IntN.{ℤ}
@@ -26,7 +26,7 @@ use Rattle.rules.proofs.Independent.{Given, given1, given2, given-some,
 use Rattle.rules.proofs.Independent.{mulc-independent, pow-independent, inv-independent, add-independent, mul-independent}
 use Rattle.rules.proofs.Enclosed.{Enclosed, value-∈, first-∈, spectrum-valid, divisor, factor-enclosed, addc-enclosed, mulc-enclosed}
 use Rattle.rules.proofs.Enclosed.{pow-enclosed, inv-enclosed, add-enclosed, mul-enclosed}
-use Rattle.rules.proofs.Sparse.{Sparse, factor-sparse, addc-sparse, mulc-sparse, pow-sparse, inv-sparse, add-sparse, mul-sparse}
+use Rattle.rules.proofs.Sparse.{Sparse, reach-few, factor-sparse, addc-sparse, mulc-sparse, pow-sparse, inv-sparse, add-sparse, mul-sparse}
 use Rattle.rules.proofs.Shaped.{Flat, factor-flat, addc-flat, mulc-flat, pow-flat, inv-flat, add-flat, mul-flat}
 use Rattle.rules.proofs.SpectrumRows.{Curved, Known, factor-curved, addc-curved, mulc-curved, pow-curved, inv-curved, add-curved}
 use Rattle.rules.proofs.SpectrumRows.{mul-curved}
@@ -47,17 +47,17 @@ abbrev pub WholeLine : ℕ → Point → Point → (Point → Option Jet) → Li
 WholeLine n p q o l = Given (λ x. Whole n p q x (o q) l) (o p)
 
 module _ (n : ℕ) (most : n ≤ 8) (p q : Point) where
-  pub whole-factor : (i : ℕ) (r : Range) → i < n → InRange (coordinate p i) r
-      → Whole n p q (factorJet p i) (some (factorJet q i)) (lineOf (factorRow i r))
+  pub whole-factor : (f i : ℕ) (r : Range) → f < 2 ^ n → i < n → InRange (coordinate p i) r
+      → Whole n p q (factorJet p i) (some (factorJet q i)) (lineOf (factorRow f i r))
   unfolding factorRow lineOf isValid
-  whole-factor i r h b = record {
-    enclosed = factor-enclosed p i r b;
-    supported = factor-supported p i;
-    independent = factor-independent p q i r;
-    curved = factor-curved p i r;
+  whole-factor f i r s h b = record {
+    enclosed = factor-enclosed f p i r b;
+    supported = factor-supported f p i;
+    independent = factor-independent p q f i r;
+    curved = factor-curved f p i r;
     valid = tt;
-    sparse = factor-sparse r h;
-    flat = factor-flat i r;
+    sparse = factor-sparse r s h;
+    flat = factor-flat f i r;
   }
 
   known : {x : Jet} {u : Option Jet} {l : Line} → Whole n p q x u l → Known l x
@@ -65,9 +65,8 @@ module _ (n : ℕ) (most : n ≤ 8) (p q : Point) where
     value = value-∈ (W .enclosed);
     gradient = first-∈ (W .enclosed);
     outside-support = W .supported .first;
-    nonlinear-in = W .supported .inside;
     flat = W .flat .flat;
-    small = omega (arith, W .sparse .few, pow-mono {i = n} {j = 8} most);
+    small = omega (arith, reach-few (W .sparse), pow-mono {i = n} {j = 8} most);
   }
 
   -- ---- the table
@@ -104,7 +103,7 @@ module _ (n : ℕ) (most : n ≤ 8) (p q : Point) where
     whole-pow m two t = record {
       enclosed = pow-enclosed (W .enclosed) m t;
       supported = pow-supported (W .supported) m;
-      independent = pow-independent p q (W .independent) (W .supported .inside) m;
+      independent = pow-independent p q (W .independent) m;
       curved = pow-curved (known W) (W .curved) m two;
       valid = spectrum-valid (lineOf (powRow l m)) t;
       sparse = pow-sparse (W .sparse) m t;
@@ -119,7 +118,7 @@ module _ (n : ℕ) (most : n ≤ 8) (p q : Point) where
       whole-inv y e = record {
         enclosed = inv-enclosed (W .enclosed) t y e;
         supported = inv-supported (W .supported) y;
-        independent = inv-independent p q (W .independent) (W .supported .inside) y e;
+        independent = inv-independent p q (W .independent) y e;
         curved = inv-curved (known W) (W .curved) y (value-∈ (inv-enclosed (W .enclosed) t y e));
         valid = spectrum-valid (lineOf (invRow l)) t;
         sparse = inv-sparse (W .sparse) t;
@@ -149,7 +148,7 @@ module _ (n : ℕ) (most : n ≤ 8) (p q : Point) where
     whole-mul t = record {
       enclosed = mul-enclosed (W .enclosed) (X .enclosed) t;
       supported = mul-supported (W .supported) (X .supported);
-      independent = mul-independent p q (W .independent) (X .independent) (W .supported .inside) (X .supported .inside);
+      independent = mul-independent p q (W .independent) (X .independent);
       curved = mul-curved (known W) (known X) (W .curved) (X .curved);
       valid = spectrum-valid (lineOf (mulRow l m)) t;
       sparse = mul-sparse (W .sparse) (X .sparse) t;

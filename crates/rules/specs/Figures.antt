@@ -21,7 +21,7 @@ use Rattle.rules.specs.declared.Refusal.the-variants.{NoCodelist, Diviso
 use Rattle.rules.specs.declared.Rating.{Rating}
 use Rattle.rules.specs.Sets.{apart, isSingle, only}
 use Rattle.rules.specs.Table.{factorRow, addRow, addcRow, mulcRow, mulRow, powRow, invRow, eight, lineOf}
-use Rattle.rules.specs.Run.{rowOf, invertsZero, within, runOps, factorLines, linesOf}
+use Rattle.rules.specs.Run.{rowOf, invertsZero, within, runOps, factorLines, alwaysBent, linesOf}
 use Rattle.rules.specs.Rate.{last, limitsOf, rated, refused, firstBad, rateRanges, rateOf}
 
 -- a codelist's factors and operations, the ranges of its factors, and what rating gives
@@ -251,7 +251,7 @@ abbrev pub ratingOf : Figure → Rating
 ratingOf f = rateOf (codelistOf (f .factors) (map (λ o. record { op = o }) (f .operations))) (ends (f .ranges))
 
 pub all-right : map ratingOf figures ≡ map (λ f. f .gives) figures
-unfolding rateOf rateRanges firstBad limitsOf last linesOf runOps factorLines rowOf invertsZero within lineOf
+unfolding rateOf rateRanges firstBad limitsOf last linesOf alwaysBent runOps factorLines rowOf invertsZero within lineOf
     factorRow addRow addcRow mulcRow mulRow powRow invRow apart isSingle only
     codelistOf ratable wellFormedOps
     isValid bothValid kept sumOf negOf timesOf endsProduct productOf endsInverse inverseOf hullOf

@@ -20,7 +20,7 @@ use Rattle.rules.specs.declared.Rating.{Rating}
 use Rattle.rules.specs.Formula.{given, unlimited}
 use Rattle.rules.specs.Sets.{allOf}
 use Rattle.rules.specs.Table.{Row, factorRow, extended, eight}
-use Rattle.rules.specs.Run.{line, rowOf, invertsZero, Lines, through, stopped, operations}
+use Rattle.rules.specs.Run.{line, rowOf, invertsZero, Lines, through, stopped, alwaysBent, operations}
 use Rattle.rules.specs.Rate.{last, rated, refused, pairs, firstBad, rateOf}
 use Rattle.rules.specs.Overflow.{allWithin, stepsOf}
 
@@ -36,10 +36,10 @@ publishedLine r = record {
   spectrum = unlimited (r .spectrum);
 }
 
--- the factors' lines: i is the first one's factor, counted from 0
-unfoldable pub publishedFactors : ℕ → List Range → List Line
-publishedFactors i [] = []
-publishedFactors i (r ∷ rs) = publishedLine (factorRow i r) ∷ publishedFactors (suc i) rs
+-- the factors' lines, with the bent set f: i is the first one's factor, counted from 0
+unfoldable pub publishedFactors : ℕ → ℕ → List Range → List Line
+publishedFactors f i [] = []
+publishedFactors f i (r ∷ rs) = publishedLine (factorRow f i r) ∷ publishedFactors f (suc i) rs
 
 -- Each operation over the lines before it, "codelist lines in order, 11 before 12": 12 where "an end of a range produced by a step below passes
 -- the limit".
@@ -70,7 +70,7 @@ publishedResult n (stopped r) = refused r
 
 -- by the lowest factor with a bad range, 0 if there is none
 unfoldable pub publishedRanges : Codelist → List Range → ℕ → Rating
-publishedRanges c rs zero = publishedResult (c .factors) (publishedOps (operations c) (publishedFactors 0 rs))
+publishedRanges c rs zero = publishedResult (c .factors) (publishedOps (operations c) (publishedFactors (alwaysBent c) 0 rs))
 publishedRanges c rs (suc a) = refused (BadRange (suc a))
 
 -- "Rating: 10, 8, 9 (lowest factor), then codelist lines in order"
@@ -86,7 +86,7 @@ publishedOf c xs =
 pub record PublishedLines (c : Codelist) (xs : List ℤ) (l : Limits) : Type 0 where
   pub lines : List Line
   pub count : length lines ≡ c .factors + c .count
-  pub factor : (a : ℕ) → a < c .factors → line lines (suc a) ≡ publishedLine (factorRow a (at (pairs xs) a))
+  pub factor : (a : ℕ) → a < c .factors → line lines (suc a) ≡ publishedLine (factorRow (alwaysBent c) a (at (pairs xs) a))
   pub operation : (k : ℕ) → k < c .count
       → line lines (suc (c .factors + k)) ≡ publishedLine (rowOf (getD (operations c) k blank .op) (take (c .factors + k) lines))
   pub result : l ≡ publishedLimits (c .factors) (last lines)

@@ -18,7 +18,7 @@ use Rattle.rules.specs.declared.Line.{Line}
 use Rattle.rules.specs.declared.Refusal.{Refusal}
 use Rattle.rules.specs.declared.Refusal.the-variants.{NoCodelist, RangeCount, BadRange, Divisor, Overflow}
 use Rattle.rules.specs.declared.Limits.{Limits}
-use Rattle.rules.specs.Run.{line, rowOf, through, runOps, factorLines, operations}
+use Rattle.rules.specs.Run.{line, rowOf, through, runOps, factorLines, alwaysBent, operations}
 use Rattle.rules.specs.Rate.{rated, refused, pairs, rateOf}
 use Rattle.rules.specs.Overflow.{EndBeyond, Passing, stepsOf}
 
@@ -86,8 +86,8 @@ RefusedFor c xs RangeCount = Ratable c × (¬ (length xs ≡ 2 * c .factors))
 -- 9 at the factor
 RefusedFor c xs (BadRange a) = LowestBad c xs a
 -- 11 and 12 at the codelist line
-RefusedFor c xs (Divisor k) = Runnable c xs × StoppedAt (Inverts k) (operations c) (factorLines 0 (pairs xs))
-RefusedFor c xs (Overflow k) = Runnable c xs × StoppedAt (Passes k) (operations c) (factorLines 0 (pairs xs))
+RefusedFor c xs (Divisor k) = Runnable c xs × StoppedAt (Inverts k) (operations c) (factorLines (alwaysBent c) 0 (pairs xs))
+RefusedFor c xs (Overflow k) = Runnable c xs × StoppedAt (Passes k) (operations c) (factorLines (alwaysBent c) 0 (pairs xs))
 
 pub record RefusedExactly : Type 0 where
   pub where-listed : (c : Codelist) (xs : List ℤ) (r : Refusal) → (rateOf c xs ≡ refused r) ↔ RefusedFor c xs r

@@ -67,13 +67,17 @@ runOps (o ∷ os) ls =
     let l = lineOf (rowOf (o .op) ls) in
     cond (invertsZero (o .op) ls) (stopped (Divisor k)) (cond (within l) (runOps os (ls ++ (l ∷ []))) (stopped (Overflow k)))
 
--- the factors' lines: i is the first one's factor, counted from 0
-unfoldable pub factorLines : ℕ → List Range → List Line
-factorLines i [] = []
-factorLines i (r ∷ rs) = lineOf (factorRow i r) ∷ factorLines (suc i) rs
+-- the factors' lines, with the bent set f: i is the first one's factor, counted from 0
+unfoldable pub factorLines : ℕ → ℕ → List Range → List Line
+factorLines f i [] = []
+factorLines f i (r ∷ rs) = lineOf (factorRow f i r) ∷ factorLines f (suc i) rs
+
+-- the factors that every line of a codelist is bent in, whatever its row
+unfoldable pub alwaysBent : Codelist → ℕ
+alwaysBent c = none
 
 abbrev pub operations : Codelist → List Entry
 operations c = take (c .count) (c .ops)
 
 unfoldable pub linesOf : Codelist → List Range → Lines
-linesOf c rs = runOps (operations c) (factorLines 0 rs)
+linesOf c rs = runOps (operations c) (factorLines (alwaysBent c) 0 rs)

@@ -60,13 +60,19 @@ spectrumOf x = given (x .spectrum)
 abbrev constant : ℤ → Formula
 constant c = given (fromTo c c)
 
--- factor i, counted from 0: "its range | one at i, else zero | {i}, empty | zero"
-unfoldable pub factorRow : ℕ → Range → Row
-factorRow i r = record {
+-- Where 01's rows have P_i as a set of a bend: the bent set, where a line's B is within its P (2016: `Years`), is part of it, and this is P_i; where
+-- every line's B is "all factors" (02, request 9, 2014), this is all factors, so that the rows of `mul`, `pow` and `inv` are those of both years.
+abbrev pub reach : Line → ℕ
+reach x = x .support ∪ x .nonlinear
+
+-- factor i, counted from 0: "its range | one at i, else zero | {i}, empty | zero", with the bent set f in place of the empty one ("with every line's
+-- bent set all factors")
+unfoldable pub factorRow : ℕ → ℕ → Range → Row
+factorRow f i r = record {
   value = given r;
   slope = λ a. given (cond (eqb a i) oneRange zeroRange);
   support = single i;
-  nonlinear = none;
+  nonlinear = f;
   spectrum = zero;
 }
 
@@ -104,43 +110,42 @@ mulcRow x c = record {
 -- 01's E of a `mul`: "Cross + lift of join(V_j·E_i, V_i·E_j)"
 abbrev pub productSpectrum : Line → Line → Formula
 productSpectrum x y =
-    let s = x .support ∪ y .support in
+    let s = reach x ∪ reach y in
     let join = spectrumOfSum (valueOf y ⊗ spectrumOf x) (x .nonlinear) (valueOf x ⊗ spectrumOf y) (y .nonlinear) in
     crossSpectrum s (x .gradient) (y .gradient) ⊕ extended join (x .nonlinear ∪ y .nonlinear) s
 
--- 02, request 4: "`mul` of lines whose depends-on sets are one factor each, different, at least one bent"; by P and B of the two
+-- 02, request 4: "`mul` of lines whose depends-on sets are one factor each, different, at least one bent"; by `reach` and B of the two, so that no two
+-- lines of 2014 are such ("request 4 unused")
 abbrev pub areSingles : ℕ → ℕ → ℕ → ℕ → Bool
 areSingles p q b c = isSingle p && (isSingle q && (apart p q && not (eqb (b ∪ c) none)))
 
 abbrev pub singles : Line → Line → Bool
-singles x y = areSingles (x .support) (y .support) (x .nonlinear) (y .nonlinear)
+singles x y = areSingles (reach x) (reach y) (x .nonlinear) (y .nonlinear)
 
 -- "With A = V_j·E_i, B = V_i·E_j and C the product of the two slopes"; where a line is not bent its E is zero: cases 4 and 7
 abbrev pub starSpectrum : Line → Line → Formula
 starSpectrum x y =
-    star (valueOf y ⊗ spectrumOf x) (valueOf x ⊗ spectrumOf y) (slopeOf x (only (x .support)) ⊗ slopeOf y (only (y .support)))
+    star (valueOf y ⊗ spectrumOf x) (valueOf x ⊗ spectrumOf y) (slopeOf x (only (reach x)) ⊗ slopeOf y (only (reach y)))
 
 -- mul: "V_i·V_j | V_i·G_j + V_j·G_i | both: union of P", and E by the lines' sets
 unfoldable pub mulRow : Line → Line → Row
-mulRow x y =
-    let s = x .support ∪ y .support in
-    record {
-      value = valueOf x ⊗ valueOf y;
-      slope = λ a. valueOf x ⊗ slopeOf y a ⊕ valueOf y ⊗ slopeOf x a;
-      support = s;
-      nonlinear = s;
-      spectrum = choose (singles x y) (starSpectrum x y) (productSpectrum x y);
-    }
+mulRow x y = record {
+  value = valueOf x ⊗ valueOf y;
+  slope = λ a. valueOf x ⊗ slopeOf y a ⊕ valueOf y ⊗ slopeOf x a;
+  support = x .support ∪ y .support;
+  nonlinear = reach x ∪ reach y;
+  spectrum = choose (singles x y) (starSpectrum x y) (productSpectrum x y);
+}
 
 -- pow: "V_i^m | m(V_i^(m−1)·G_i) | both P_i | m(V_i^(m−2)·((m−1)·Sq + V_i·lift E_i))"
 unfoldable pub powRow : Line → ℕ → Row
 powRow x m =
-    let s = x .support in
+    let s = reach x in
     let lift = extended (spectrumOf x) (x .nonlinear) s in
     record {
       value = power (valueOf x) m;
       slope = λ a. times m (power (valueOf x) (m - 1) ⊗ slopeOf x a);
-      support = s;
+      support = x .support;
       nonlinear = s;
       spectrum = times m (power (valueOf x) (m - 2) ⊗ (times (m - 1) (squareSpectrum s (x .gradient)) ⊕ valueOf x ⊗ lift));
     }
@@ -148,13 +153,13 @@ powRow x m =
 -- inv: "inverse of V_i | −(V_k²·G_i) | both P_i | V_k²·(2(V_k·Sq) − lift E_i)". "V_k is the line's own V, and V_k² its second power."
 unfoldable pub invRow : Line → Row
 invRow x =
-    let s = x .support in
+    let s = reach x in
     let v = inverse (valueOf x) in
     let lift = extended (spectrumOf x) (x .nonlinear) s in
     record {
       value = v;
       slope = λ a. negated (power v 2 ⊗ slopeOf x a);
-      support = s;
+      support = x .support;
       nonlinear = s;
       spectrum = power v 2 ⊗ (times 2 (v ⊗ squareSpectrum s (x .gradient)) ⊕ negated lift);
     }
