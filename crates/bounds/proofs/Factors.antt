@@ -56,11 +56,11 @@ module _ (t : List ℤ) (a : ℕ) (few : a < 8) (long : length t ≡ 1280) (blan
     written = rw (w, sym (one-at a few)) (storing-more (storing-start (omega arith) long blank) few oneRange)
 
     -- the line, as the code makes it: its slope, and then its head
-    pub factor-placed : (r : Range) (s : List ℕ) (x : List ℤ) (v : List ℕ)
-        → (x ≡ putPair (putPair u (20 * a) r) (20 * a + 2) zeroRange) × (v ≡ set (set s (2 * a) (1 * 2 ^ a % 256)) (2 * a + 1) 0)
-        → length s ≡ 128 → Placed (lineOf (factorRow a r)) t s a x v
+    pub factor-placed : (b : ℕ) (r : Range) (s : List ℕ) (x : List ℤ) (v : List ℕ)
+        → (x ≡ putPair (putPair u (20 * a) r) (20 * a + 2) zeroRange) × (v ≡ set (set s (2 * a) (1 * 2 ^ a % 256)) (2 * a + 1) b)
+        → length s ≡ 128 → Placed (lineOf (factorRow b a r)) t s a x v
     unfolding factorRow lineOf
-    factor-placed r s x v w sets =
+    factor-placed b r s x v w sets =
         let g : Slopes = record { gradient = eight (onesAt a); valid = true } in
         let p = placed u s a g x v w (written .stored .slopes) (written .long) sets (omega (arith, few)) in
         record {
@@ -68,7 +68,7 @@ module _ (t : List ℤ) (a : ℕ) (few : a < 8) (long : length t ≡ 1280) (blan
             value = r;
             gradient = eight (onesAt a);
             support = shifted a 7 256 (omega arith) (lit< tt) i;
-            nonlinear = 0;
+            nonlinear = b;
             spectrum = zeroRange;
           });
           others = stored-others (written .stored) s x v (p .others);
@@ -90,18 +90,18 @@ module _ (a : ℕ) where
       go true = one-valid
       go false = zero-valid
 
-  pub factor-fine : (r : Range) → isValid r ≡ true → Fine (lineOf (factorRow a r))
+  pub factor-fine : (n : ℕ) (r : Range) → isValid r ≡ true → Fine (lineOf (factorRow n a r))
   unfolding lineOf factorRow within
-  factor-fine r v = record {
+  factor-fine n r v = record {
     valid = simp (v, ones-valid, zero-valid);
     flat = λ b o. at-any (onesAt a) b (λ q. q ≡ zeroRange) refl (ones-flat b o);
   }
 
 -- ---- the row, worked out: its line is placed, and its slopes are given back
-pub factor-worked : (a : ℕ) → a < 8 → (r : Range) → isValid r ≡ true → {t : List ℤ} {s : List ℕ} {u : List ℤ} {v : List ℕ}
-    → Placed (lineOf (factorRow a r)) t s a u v
-    → Worked (factorRow a r) t s a (record { gradient = set (eight (λ b. zeroRange)) a oneRange; valid = true }) u v
+pub factor-worked : (b a : ℕ) → a < 8 → (r : Range) → isValid r ≡ true → {t : List ℤ} {s : List ℕ} {u : List ℤ} {v : List ℕ}
+    → Placed (lineOf (factorRow b a r)) t s a u v
+    → Worked (factorRow b a r) t s a (record { gradient = set (eight (λ b. zeroRange)) a oneRange; valid = true }) u v
 unfolding lineOf factorRow
-factor-worked a h r ok p =
-    let f = factor-fine a r ok in
+factor-worked b a h r ok p =
+    let f = factor-fine a b r ok in
     record { tells = sym (f .valid); slopes = λ e. one-at a h; line = λ e. p .line; fine = λ e. f; others = p .others }

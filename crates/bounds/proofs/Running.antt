@@ -23,7 +23,7 @@ use Rattle.codelist.proofs.Ratable as W
 use Rattle.rules.specs.declared.Line.{Line}
 use Rattle.rules.specs.declared.Refusal.the-variants.{Divisor, Overflow}
 use Rattle.rules.specs.Table.{Row, lineOf}
-use Rattle.rules.specs.Run.{noLine, line, rowOf, invertsZero, within, Lines, stopped, runOps, factorLines, operations, linesOf}
+use Rattle.rules.specs.Run.{noLine, line, rowOf, invertsZero, within, Lines, stopped, runOps, factorLines, alwaysBent, operations, linesOf}
 use Rattle.rules.specs.Rate.{last, limitsOf, rated, refused, finished}
 use Rattle.bounds.specs.Terms.{Fine}
 use Rattle.bounds.specs.declared.slopes.Slopes.{Slopes}
@@ -174,7 +174,7 @@ module _ (c : Codelist) (rs : List Range) where
     pub todo : runOps (drop (k - c .factors) (operations c)) (linesUpTo t s k) ≡ linesOf c rs
     pub untested : wellFormedOps (c .factors + (k - c .factors)) (drop (k - c .factors) (operations c)) ≡ ratable c
 
-  pub ran-start : (t : List ℤ) (s : List ℕ) (g : List Range) (k : ℕ) → Counted c → k ≡ c .factors → Started (factorLines 0 rs) k t s
+  pub ran-start : (t : List ℤ) (s : List ℕ) (g : List Range) (k : ℕ) → Counted c → k ≡ c .factors → Started (factorLines (alwaysBent c) 0 rs) k t s
       → g ≡ gradientAt t (k - 1) → Ran t s g k
   unfolding linesOf
   ran-start t s g k n e i l =

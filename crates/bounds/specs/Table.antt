@@ -11,6 +11,7 @@ use Rattle.range.specs.declared.Range.{Range}
 use Rattle.range.specs.Limit.{zeroRange}
 use Rattle.range.specs.Sums.{pairAt, rangesFrom}
 use Rattle.rules.specs.declared.Line.{Line}
+use Rattle.rules.specs.Sets.{_∪_}
 use Rattle.rules.specs.Table.{Row, eight, lineOf}
 use Rattle.rules.specs.Run.{within}
 use Rattle.bounds.specs.declared.slopes.Slopes.{Slopes}
@@ -30,6 +31,10 @@ supportAt s k = getD s (2 * k) 0
 
 abbrev pub nonlinearAt : List ℕ → ℕ → ℕ
 nonlinearAt s k = getD s (2 * k + 1) 0
+
+-- What the line k reaches (`reach` of rules' Table): its support, and what it is nonlinear in.
+abbrev pub reachAt : List ℕ → ℕ → ℕ
+reachAt s k = supportAt s k ∪ nonlinearAt s k
 
 -- The line k of the table.
 abbrev pub lineAt : List ℤ → List ℕ → ℕ → Line

@@ -46,12 +46,12 @@ fn settle(
     g
 }
 
-// 01's row `factor a`; a is counted from 0, and its line is the line a.
-pub(crate) fn factor(t: &mut [i32; 1280], s: &mut [u8; 128], a: usize, r: Range) -> Slopes
+// 01's row `factor a`, with the bent set b; a is counted from 0, and its line is the line a.
+pub(crate) fn factor(t: &mut [i32; 1280], s: &mut [u8; 128], b: u8, a: usize, r: Range) -> Slopes
     requires { ⌜ a < 8 ⌝ }
     requires { ⌜ Blank (now t) a ⌝ }
     requires { ⌜ isValid r ≡ true ⌝ }
-    ensures { λ g. ⌜ Worked (factorRow a r) (now (t .entry)) (now (s .entry)) a g (now (t .exit)) (now (s .exit)) ⌝ }
+    ensures { λ g. ⌜ Worked (factorRow b a r) (now (t .entry)) (now (s .entry)) a g (now (t .exit)) (now (s .exit)) ⌝ }
 {
     let zero = Range::ZERO;
     let one = Range::ONE;
@@ -60,7 +60,7 @@ pub(crate) fn factor(t: &mut [i32; 1280], s: &mut [u8; 128], a: usize, r: Range)
     table::sized(t);
     table::sized_sets(s);
     table::put_slope(t, a, a, one);
-    table::put_head(t, s, a, r, zero, 1u8 << a, 0);
+    table::put_head(t, s, a, r, zero, 1u8 << a, b);
     Slopes {
         gradient: g,
         valid: true,
@@ -142,7 +142,7 @@ fn joined_spectrum(t: &[i32; 1280], s: &[u8; 128], i: usize, j: usize) -> Range
     ensures { λ r. ⌜ r ≡ sticky
         (productSpectrum (lineAt (now (t .entry)) (now (s .entry)) i) (lineAt (now (t .entry)) (now (s .entry)) j)) ⌝ }
 {
-    let p = table::support(s, i) | table::support(s, j);
+    let p = table::reach(s, i) | table::reach(s, j);
     let b = table::nonlinear(s, i);
     let c = table::nonlinear(s, j);
     let own = spectrum::of_sum(weighted_spectrum(t, i, j), b, weighted_spectrum(t, j, i), c);
@@ -163,8 +163,8 @@ fn star_spectrum(t: &[i32; 1280], s: &[u8; 128], i: usize, j: usize) -> Range
 {
     let a = weighted_spectrum(t, i, j);
     let b = weighted_spectrum(t, j, i);
-    let g = spectrum::only_of(t, table::support(s, i), i);
-    let h = spectrum::only_of(t, table::support(s, j), j);
+    let g = spectrum::only_of(t, table::reach(s, i), i);
+    let h = spectrum::only_of(t, table::reach(s, j), j);
     a.star(b, valid::product(g, h))
 }
 
@@ -177,8 +177,8 @@ fn product_spectrum(t: &[i32; 1280], s: &[u8; 128], i: usize, j: usize) -> Range
     ensures { λ r. ⌜ r ≡ sticky
         (mulRow (lineAt (now (t .entry)) (now (s .entry)) i) (lineAt (now (t .entry)) (now (s .entry)) j) .spectrum) ⌝ }
 {
-    let p = table::support(s, i);
-    let q = table::support(s, j);
+    let p = table::reach(s, i);
+    let q = table::reach(s, j);
     let b = table::nonlinear(s, i);
     let c = table::nonlinear(s, j);
     if spectrum::are_singles(p, q, b, c) {
@@ -199,12 +199,13 @@ pub(crate) fn mul(t: &mut [i32; 1280], s: &mut [u8; 128], i: usize, j: usize, k:
         (now (t .entry)) (now (s .entry)) k r (now (t .exit)) (now (s .exit)) ⌝ }
 {
     let p = table::support(s, i) | table::support(s, j);
+    let b = table::reach(s, i) | table::reach(s, j);
     let v = table::value(t, i);
     let w = table::value(t, j);
     let u = valid::product(v, w);
     let e = product_spectrum(t, s, i, j);
     let g = slopes::of_product(t, k, p, i, j, v, w);
-    settle(t, s, k, u, e, p, p, g)
+    settle(t, s, k, u, e, p, b, g)
 }
 
 // The E of 01's row `pow`.
@@ -214,7 +215,7 @@ fn power_spectrum(t: &[i32; 1280], s: &[u8; 128], i: usize, m: u8) -> Range
     requires { ⌜ 2 ≤ m ⌝ }
     ensures { λ r. ⌜ r ≡ sticky (powRow (lineAt (now (t .entry)) (now (s .entry)) i) m .spectrum) ⌝ }
 {
-    let p = table::support(s, i);
+    let p = table::reach(s, i);
     let x = table::value(t, i);
     let squares = spectrum::of_square(t, p, i).times(m - 1);
     let own = x.product(spectrum::extended(table::spectrum(t, i), table::nonlinear(s, i), p));
@@ -232,6 +233,7 @@ pub(crate) fn pow(t: &mut [i32; 1280], s: &mut [u8; 128], i: usize, m: u8, k: us
         (now (t .entry)) (now (s .entry)) k r (now (t .exit)) (now (s .exit)) ⌝ }
 {
     let p = table::support(s, i);
+    let b = table::reach(s, i);
     let x = table::value(t, i);
     let q = x.power(m - 1);
     if !q.valid() {
@@ -240,7 +242,7 @@ pub(crate) fn pow(t: &mut [i32; 1280], s: &mut [u8; 128], i: usize, m: u8, k: us
     let v = x.power(m);
     let e = power_spectrum(t, s, i, m);
     let g = slopes::raised(t, k, p, i, q, m);
-    settle(t, s, k, v, e, p, p, g)
+    settle(t, s, k, v, e, p, b, g)
 }
 
 // The E of 01's row `inv`; v is the line's own value.
@@ -250,7 +252,7 @@ fn inverse_spectrum(t: &[i32; 1280], s: &[u8; 128], i: usize, v: Range) -> Range
     requires { ⌜ v ≡ inverseOf (valueAt (now t) i) ⌝ }
     ensures { λ r. ⌜ r ≡ sticky (invRow (lineAt (now (t .entry)) (now (s .entry)) i) .spectrum) ⌝ }
 {
-    let p = table::support(s, i);
+    let p = table::reach(s, i);
     let squares = v.product(spectrum::of_square(t, p, i)).times(2);
     let own = spectrum::extended(table::spectrum(t, i), table::nonlinear(s, i), p).negated();
     v.power(2).product(squares.sum(own))
@@ -266,6 +268,7 @@ pub(crate) fn inv(t: &mut [i32; 1280], s: &mut [u8; 128], i: usize, k: usize) ->
         (now (t .entry)) (now (s .entry)) k r (now (t .exit)) (now (s .exit)) ⌝ }
 {
     let p = table::support(s, i);
+    let b = table::reach(s, i);
     let v = table::value(t, i).inverse();
     let q = v.power(2);
     if !q.valid() {
@@ -273,5 +276,5 @@ pub(crate) fn inv(t: &mut [i32; 1280], s: &mut [u8; 128], i: usize, k: usize) ->
     }
     let e = inverse_spectrum(t, s, i, v);
     let g = slopes::scaled(t, k, p, i, q.negated());
-    settle(t, s, k, v, e, p, p, g)
+    settle(t, s, k, v, e, p, b, g)
 }

@@ -84,19 +84,19 @@ fn index(i: u8) -> usize
     i as usize - 1
 }
 
-// The lines of the n factors. What is given back is the slopes of the last.
-fn start(t: &mut [i32; 1280], s: &mut [u8; 128], xs: &[i64], n: usize) -> [Range; 8]
+// The lines of the n factors, with the bent set b. What is given back is the slopes of the last.
+fn start(t: &mut [i32; 1280], s: &mut [u8; 128], xs: &[i64], b: u8, n: usize) -> [Range; 8]
     requires { ⌜ Ready (now t) (now s) 0 ⌝ }
     requires { ⌜ length (pairs (now xs)) ≡ n ⌝ }
     requires { ⌜ (1 ≤ n) × (n ≤ 8) ⌝ }
     requires { ⌜ eachValid (pairs (now xs)) ≡ true ⌝ }
-    ensures { λ g. ⌜ Started (factorLines 0 (pairs (now (xs .entry)))) n (now (t .exit)) (now (s .exit)) ⌝ }
+    ensures { λ g. ⌜ Started (factorLines b 0 (pairs (now (xs .entry)))) n (now (t .exit)) (now (s .exit)) ⌝ }
     ensures { λ g. ⌜ g ≡ gradientAt (now (t .exit)) (n - 1) ⌝ }
 {
     let mut last = [Range::ZERO; 8];
     let mut k: usize = 0;
     while k < n {
-        let g = rows::factor(t, s, k, range_at(xs, k));
+        let g = rows::factor(t, s, b, k, range_at(xs, k));
         last = g.gradient;
         k += 1;
     }
@@ -169,7 +169,7 @@ pub(crate) fn answer(c: Codelist, xs: &[i64]) -> Rating
     }
     let mut t = [0i32; 1280];
     let mut s = [0u8; 128];
-    let mut last = start(&mut t, &mut s, xs, n);
+    let mut last = start(&mut t, &mut s, xs, 0, n);
     let mut k = n;
     while k < n + count {
         let entry = c.ops[k - n];

@@ -8,7 +8,7 @@ ghost use lib.ListN.{length, getD, set};
 ghost use Rattle.range.specs.Limit.{isValid};
 ghost use Rattle.range.specs.Laws.{Settled};
 ghost use Rattle.range.specs.Sums.{at, pairAt};
-ghost use Rattle.bounds.specs.Table.{valueAt, spectrumAt, gradientAt, supportAt, nonlinearAt, putPair};
+ghost use Rattle.bounds.specs.Table.{valueAt, spectrumAt, gradientAt, supportAt, nonlinearAt, reachAt, putPair};
 use range::Range;
 
 // The table has as many numbers as its type says, which a proof learns where the table is seen as a slice.
@@ -90,6 +90,14 @@ pub(crate) fn nonlinear(s: &[u8; 128], k: usize) -> u8
     ensures { λ r. ⌜ r ≡ nonlinearAt (now (s .entry)) k ⌝ }
 {
     s[2 * k + 1]
+}
+
+// Both: the set that a product, a power or an inverse of the line k is nonlinear in.
+pub(crate) fn reach(s: &[u8; 128], k: usize) -> u8
+    requires { ⌜ k < 64 ⌝ }
+    ensures { λ r. ⌜ r ≡ reachAt (now (s .entry)) k ⌝ }
+{
+    support(s, k) | nonlinear(s, k)
 }
 
 // Writes what an operation gave, a valid range or `OVER`, from the number m on: its ends fit 32 bits.

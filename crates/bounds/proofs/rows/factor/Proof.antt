@@ -23,9 +23,9 @@ returns c =
     let sets = slope .before .before in
     let sized = sets .before .before in
     let s = sized .before .before in
-    factor-worked (s .args .a) (s .pre .0) (s .args .r) (s .pre .1 .1)
+    factor-worked (s .args .b) (s .args .a) (s .pre .0) (s .args .r) (s .pre .1 .1)
     (factor-placed _ (s .args .a) (s .pre .0) (sized .sized .ensures) (s .pre .1 .0) _ (slope .put-slope .ensures)
-    (s .args .r) _ _ _ (c .put-head .ensures) (sets .sized-sets .ensures))
+    (s .args .b) (s .args .r) _ _ _ (c .put-head .ensures) (sets .sized-sets .ensures))
 
 pub factor-spec : {M : Type 1} → statement M
 factor-spec =

@@ -23,7 +23,7 @@ use Rattle.bounds.proofs.rows.inv.Tie as tie
 
 -- where the function starts, seen from V_k and from its head
 abbrev start : tie.After-inverse → tie.Start
-start c = c .before .before .before .before .before
+start c = c .before .before .before .before .before .before .before
 
 abbrev head-start : tie.After-settle-arg2 → tie.Start
 head-start c = start (c .before .before .before .before .before .before .before .before .before .before .before)
@@ -80,12 +80,13 @@ returns-2 c =
     let test = spectra .before .before .before in
     let power = test .before .before in
     let value = power .before .before in
-    let support = value .before .before .support .ensures in
+    let reached = value .before .before in
+    let supported = reached .before .before in
     let s = start (power .before) in
     let v = square-valid test in
     let g = at (gradientAt (now (s .args .t)) (s .args .i)) in
     worked _
-    (record { value = inverse-is (power .before); spectrum = spectra .inverse-spectrum .ensures; support = support; nonlinear = support })
+    (record { value = inverse-is (power .before); spectrum = spectra .inverse-spectrum .ensures; support = supported .support .ensures; nonlinear = reached .reach .ensures })
     _
     (λ a.
     ap (λ (q : Range). productOf q (g a)) (negated .negated .ensures)
@@ -98,6 +99,7 @@ pub inv-spec : {M : Type 1} → statement M
 inv-spec =
     tie.close
     (tie.spec
+    (λ c κs. search needs)
     (λ c κs. search needs)
     (λ c κs. search needs)
     (λ c κs. search needs)

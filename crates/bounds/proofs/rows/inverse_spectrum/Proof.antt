@@ -22,7 +22,7 @@ returns c =
       times .times .ensures,
       times .before .product .ensures,
       square .of-square .ensures,
-      square .before .support .ensures,
+      square .before .reach .ensures,
       square .before .before .pre .1 .1,
     )
 

@@ -45,7 +45,7 @@ told-sum-requires c κs =
     let args = sets .before .before .args in
     let slopes = gradientAt (args .t .now) in
     let b = bends .before .nonlinear .result ∪ bends .nonlinear2 .result in
-    let p = sets .before .support .result ∪ sets .support2 .result in (
+    let p = sets .before .reach .result ∪ sets .reach2 .result in (
       rw (c .before .of-cross .ensures) (told-cross-spectrum p (slopes (args .i)) (slopes (args .j))),
       rw (c .extended .ensures) (told-extended _ b p (own-told own)),
     )
@@ -66,8 +66,8 @@ returns c =
       weighted .before .weighted-spectrum .ensures,
       bends .nonlinear2 .ensures,
       bends .before .nonlinear .ensures,
-      sets .support2 .ensures,
-      sets .before .support .ensures,
+      sets .reach2 .ensures,
+      sets .before .reach .ensures,
     )
 
 pub joined-spectrum-spec : {M : Type 1} → statement M

@@ -20,7 +20,7 @@ use Rattle.bounds.proofs.rows.mul.Tie as tie
 
 -- where the function starts, seen from its values and from its head
 abbrev start : tie.After-value2 → tie.Start
-start c = c .before .before .before .before .before .before .before .before
+start c = c .before .before .before .before .before .before .before .before .before .before .before .before
 
 abbrev head-start : tie.After-settle-arg2 → tie.Start
 head-start c = start (c .before .before .before .before .before .before .before .before)
@@ -72,13 +72,13 @@ returns c =
     let sets = values .before .before .before .before in
     let s = start values in
     let lines = s .pre .1 .1 in
-    let union = ap₂ bitOr (sets .before .before .support .ensures) (sets .support2 .ensures) in
+    let supports = sets .before .before .before .before in
     worked _
     (record {
       value = product .product .ensures ∙ ap₂ productOf (values .before .before .value .ensures) (values .value2 .ensures);
       spectrum = spectra .product-spectrum .ensures;
-      support = union;
-      nonlinear = union;
+      support = ap₂ bitOr (supports .before .before .support .ensures) (supports .support2 .ensures);
+      nonlinear = ap₂ bitOr (sets .before .before .reach .ensures) (sets .reach2 .ensures);
     })
     _
     (λ a l. sumOf (productOf (values .before .before .value .ensures l) (at (gradientAt (now (s .args .t)) (s .args .j)) a)) (productOf (values .value2 .ensures l) (at (gradientAt (now (s .args .t)) (s .args .i)) a)))
@@ -94,6 +94,8 @@ pub mul-spec : {M : Type 1} → statement M
 mul-spec =
     tie.close
     (tie.spec
+    (λ c κs. search needs)
+    (λ c κs. search needs)
     (λ c κs. search needs)
     (λ c κs. search needs)
     (λ c κs. search needs)

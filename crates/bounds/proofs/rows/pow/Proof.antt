@@ -22,7 +22,7 @@ use Rattle.bounds.proofs.rows.pow.Tie as tie
 
 -- where the function starts, seen from V^(m−1) and from its head
 abbrev start : tie.After-power → tie.Start
-start c = c .before .before .before .before .before
+start c = c .before .before .before .before .before .before .before
 
 abbrev head-start : tie.After-settle-arg2 → tie.Start
 head-start c = start (c .before .before .before .before .before .before .before .before .before .before)
@@ -72,15 +72,16 @@ returns-2 c =
     let test = values .before in
     let power = test .before .before in
     let value = power .before in
-    let support = value .before .before .support .ensures in
+    let reached = value .before .before in
+    let supported = reached .before .before in
     let s = start power in
     let m = s .args .m in
     worked _
     (record {
       value = values .power2 .ensures ∙ ap (λ (v : Range). powOf v m) (value .value .ensures);
       spectrum = spectra .power-spectrum .ensures;
-      support = support;
-      nonlinear = support;
+      support = supported .support .ensures;
+      nonlinear = reached .reach .ensures;
     })
     _
     (λ a l. timesOf m (productOf (power-is power l) (at (gradientAt (now (s .args .t)) (s .args .i)) a)))
@@ -91,6 +92,7 @@ pub pow-spec : {M : Type 1} → statement M
 pow-spec =
     tie.close
     (tie.spec
+    (λ c κs. search needs)
     (λ c κs. search needs)
     (λ c κs. search needs)
     (λ c. search needs)

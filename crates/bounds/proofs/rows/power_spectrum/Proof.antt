@@ -23,7 +23,7 @@ returns c =
       times .times .ensures,
       times .before .of-square .ensures,
       value .value .ensures,
-      value .before .support .ensures,
+      value .before .reach .ensures,
     )
 
 pub power-spectrum-spec : {M : Type 1} → statement M

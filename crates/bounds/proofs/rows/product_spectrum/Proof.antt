@@ -16,7 +16,7 @@ test c =
     let b = d .before in
     let q = b .before in
     let p = q .before in
-    c .are-singles .ensures ∙ λ i. areSingles (p .support .ensures i) (q .support2 .ensures i) (b .nonlinear .ensures i) (d .nonlinear2 .ensures i)
+    c .are-singles .ensures ∙ λ i. areSingles (p .reach .ensures i) (q .reach2 .ensures i) (b .nonlinear .ensures i) (d .nonlinear2 .ensures i)
 
 returns : tie.Need-returns
 unfolding mulRow

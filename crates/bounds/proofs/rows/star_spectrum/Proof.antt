@@ -23,9 +23,9 @@ product-requires c κs =
     let start = first .before .before .before .before in
     let a = start .args in
     let lines = start .pre .1 .1 in (
-      read-valid _ (gradientAt (a .t .now) (a .i)) (only (first .before .support .result)) (first .only-of .ensures)
+      read-valid _ (gradientAt (a .t .now) (a .i)) (only (first .before .reach .result)) (first .only-of .ensures)
           (gradient-valid _ (lines .0 .valid)),
-      read-valid _ (gradientAt (a .t .now) (a .j)) (only (c .before .support2 .result)) (c .only-of2 .ensures)
+      read-valid _ (gradientAt (a .t .now) (a .j)) (only (c .before .reach2 .result)) (c .only-of2 .ensures)
           (gradient-valid _ (lines .1 .valid)),
     )
 
@@ -38,9 +38,9 @@ returns c =
       c .star .ensures,
       c .before .product .ensures,
       second .only-of2 .ensures,
-      second .before .support2 .ensures,
+      second .before .reach2 .ensures,
       first .only-of .ensures,
-      first .before .support .ensures,
+      first .before .reach .ensures,
       bends .weighted-spectrum2 .ensures,
       bends .before .weighted-spectrum .ensures,
     )

@@ -10,7 +10,7 @@ use Rattle.codelist.proofs.WellFormed.{length-mapped}
 use Rattle.codelist.proofs.Ratable.{not-counted}
 use Rattle.rules.specs.declared.Refusal.{Refusal}
 use Rattle.rules.specs.declared.Refusal.the-variants.{NoCodelist}
-use Rattle.rules.specs.Run.{linesOf}
+use Rattle.rules.specs.Run.{alwaysBent, linesOf}
 use Rattle.rules.specs.Rate.{refused, pairs, finished, rateOf}
 use Rattle.bounds.proofs.Ranges.{pairs-count, bad-few, none-bad}
 use Rattle.bounds.proofs.Running as R
@@ -92,6 +92,7 @@ start-requires c κs =
     (R.ready-none 1280 _, (pairs-count xs _ (bad .before .if2 .left), (R.counts (counted (bad .before .before)) .factors, none-bad (pairs xs) 0 (sym (bad .first-bad .ensures) ∙ good .if3 .left))))
 
 loop-holds : tie.Need-loop-holds Inv-loop μ-loop
+unfolding alwaysBent
 loop-holds c = R.ran-start _ _ _ _ _ _ (counted (c .before .before .before .before .before .before)) refl (c .start .ensures .0) (c .start .ensures .1)
 
 element-copy-out-entry : tie.Need-element-copy-out-entry Inv-loop μ-loop

@@ -12,17 +12,17 @@ use Rattle.bounds.proofs.run.start.Statement.{statement}
 use Rattle.bounds.proofs.run.start.Tie as tie
 
 abbrev Inv-loop : tie.InvT-loop
-Inv-loop t₀ s₀ xs n last₀ k₀ t s last k = (k ≤ n) × Begun (pairs xs) t s last k
+Inv-loop t₀ s₀ xs b n last₀ k₀ t s last k = (k ≤ n) × Begun b (pairs xs) t s last k
 
 abbrev μ-loop : tie.MeasureT-loop
-μ-loop t₀ s₀ xs n last₀ k₀ t s last k = n - k
+μ-loop t₀ s₀ xs b n last₀ k₀ t s last k = n - k
 
 -- a factor is left
 more : (t : tie.In-loop Inv-loop μ-loop) → t .before .loop .k < length (pairs (t .before .before .args .xs .now))
 more t = omega (arith, t .before .before .pre .1 .0, t .loop-test .taken)
 
 loop-holds : tie.Need-loop-holds Inv-loop μ-loop
-loop-holds c = (omega arith, begun-none (pairs (c .args .xs .now)) (c .pre .1 .1 .1) _ _ _ (c .pre .0))
+loop-holds c = (omega arith, begun-none (c .args .b) (pairs (c .args .xs .now)) (c .pre .1 .1 .1) _ _ _ (c .pre .0))
 
 range-at-requires : tie.Need-range-at-requires Inv-loop μ-loop
 range-at-requires c κs = more (c .before .before)
@@ -51,7 +51,7 @@ loop-again c =
     let test = range .before .before .before in
     let at = test .before .loop in (
       omega (arith, test .loop-test .taken),
-      begun-more (pairs (test .before .before .args .xs .now)) (test .before .before .pre .1 .1 .1) (at .k) _ (at .inv .1) (more test) (range .range-at .ensures) (factor .factor .ensures),
+      begun-more (test .before .before .args .b) (pairs (test .before .before .args .xs .now)) (test .before .before .pre .1 .1 .1) (at .k) _ (at .inv .1) (more test) (range .range-at .ensures) (factor .factor .ensures),
     )
 
 returns : tie.Need-returns Inv-loop μ-loop
@@ -59,7 +59,7 @@ returns c =
     let at = c .before .loop in
     let start = c .before .before in
     let all : start .args .n ≡ at .k = omega (arith, at .inv .0, c .loop-test .left) in
-    begun-all (pairs (start .args .xs .now)) (start .pre .1 .1 .1) _ _ _ _ _ (start .pre .1 .0) (start .pre .1 .1 .0 .0) all (at .inv .1)
+    begun-all (start .args .b) (pairs (start .args .xs .now)) (start .pre .1 .1 .1) _ _ _ _ _ (start .pre .1 .0) (start .pre .1 .1 .0 .0) all (at .inv .1)
 
 pub start-spec : {M : Type 1} → statement M
 start-spec =
