@@ -34,6 +34,8 @@ pub mod Overflow
 pub mod Stopped
 pub mod FirstBad
 pub mod Refused
+-- specs/TableTwo: the rows of 2014
+pub mod TableTwo
 -- specs/Published: the arithmetic without a limit
 pub mod Published
 -- specs/Sharper: request 4 beside 01's rule

@@ -5,6 +5,7 @@ pub mod Table
 pub mod Run
 pub mod Rate
 pub mod Overflow
+pub mod TableTwo
 pub mod Published
 pub mod Refused
 pub mod Exact
