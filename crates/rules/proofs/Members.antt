@@ -6,9 +6,9 @@ use mathlib.Core.Logic.{⊎-elim, _⊎_, inl, inr}
 use Prim.Native.Nat.{ℕ, zero, suc, _+_, _-_, _*_, _/_, _%_, _^_, _≤_, _<_, min, max}
 use native.Mathlib.Nat as N
 use native.Mathlib.Omega.{arith}
-use lib.Bits.{bitOr, bitAnd, or-step, and-step, or-shr, and-shr}
+use lib.Bits.{bitOr, bitAnd, or-step, and-step, or-shr, and-shr, or-zero-l, or-zero-r}
 use lib.Count.{ones, ones-step, ones-le, trailingZeros}
-use lib.Dec.{T, eqb, lit<}
+use lib.Dec.{T, eqb, eqb→eq, lit<}
 use lib.Pow.{pow-pos, pow-lt, pow-mono, high, high-ones, shr-shr}
 use Rattle.range.specs.Sums.{has}
 use Rattle.rules.specs.Sets.{none, single, allOf, _∪_}
@@ -134,22 +134,38 @@ out-none a m = subst (λ (d : ℕ). T (eqb (d % 2) 1)) (N.zero-div (2 ^ a)) m
 pub none-in : (s : ℕ) → none ⊆ s
 none-in s = record { into = λ a m. absurd (out-none a m) }
 
+-- a part adds nothing
+pub part-union : (s t : ℕ) → t ⊆ s → s ∪ t ≡ s
+unfolding has
+part-union s t f = go t s t (N.le-refl t) (f .into)
+  where
+    go : (k s t : ℕ) → t ≤ k → ((a : ℕ) → T (has t a) → T (has s a)) → s ∪ t ≡ s
+    go zero s t h f = let z : t ≡ 0 = omega arith in rw z (or-zero-r s)
+    go (suc k) s t h f =
+        let high : bitOr (s / 2) (t / 2) ≡ s / 2 = go k (s / 2) (t / 2) (omega arith) (λ a m. back s a (f (suc a) (forth t a m))) in
+        ⊎-elim
+        (λ e. omega (arith, or-step s t, high))
+        (λ o.
+        let m : T (eqb (s / 2 ^ 0 % 2) 1) = f 0 (subst (λ (x : ℕ). T (eqb x 1)) (sym (lowest t ∙ o)) tt) in
+        let e : s % 2 ≡ 1 = sym (lowest s) ∙ eqb→eq (s / 2 ^ 0 % 2) 1 m in
+        omega (arith, or-step s t, high))
+        (odd-or-even t)
+      where
+        lowest : (m : ℕ) → m / 2 ^ 0 % 2 ≡ m % 2
+        lowest m = ap (λ (x : ℕ). x % 2) (N.div-one m)
+
+        next : (m a : ℕ) → m / 2 / 2 ^ a ≡ m / 2 ^ suc a
+        next m a = shr-shr m 1 a ∙ ap (λ (x : ℕ). m / 2 ^ x) (omega arith)
+
+        forth : (m a : ℕ) → T (eqb (m / 2 / 2 ^ a % 2) 1) → T (eqb (m / 2 ^ suc a % 2) 1)
+        forth m a = subst (λ (x : ℕ). T (eqb (x % 2) 1)) (next m a)
+
+        back : (m a : ℕ) → T (eqb (m / 2 ^ suc a % 2) 1) → T (eqb (m / 2 / 2 ^ a % 2) 1)
+        back m a = subst (λ (x : ℕ). T (eqb (x % 2) 1)) (sym (next m a))
+
 -- and a set that nothing is in is empty
 pub no-members : (m : ℕ) → ((a : ℕ) → ¬ T (has m a)) → m ≡ none
-unfolding has
-no-members m f = go m m (N.le-refl m) f
-  where
-    go : (k m : ℕ) → m ≤ k → ((a : ℕ) → ¬ T (has m a)) → m ≡ none
-    go zero m h f = omega arith
-    go (suc k) m h f =
-        let z : m / 2 ≡ 0 = go k (m / 2) (omega arith) (λ a t. f (suc a) (subst (λ (x : ℕ). T (eqb (x % 2) 1)) (shr-shr m 1 a ∙ next a) t)) in
-        ⊎-elim
-        (λ e. omega arith)
-        (λ o. absurd (f 0 (subst (λ (x : ℕ). T (eqb x 1)) (sym (ap (λ (x : ℕ). x % 2) (N.div-one m) ∙ o)) tt)))
-        (odd-or-even m)
-      where
-        next : (a : ℕ) → m / 2 ^ (1 + a) ≡ m / 2 ^ suc a
-        next a = ap (λ (x : ℕ). m / 2 ^ x) (omega arith)
+no-members m f = sym (or-zero-l m) ∙ part-union none m (record { into = λ a t. absurd (f a t) })
 
 pub in-single : (i : ℕ) → T (has (single i) i)
 unfolding has
