@@ -21,6 +21,7 @@ pub mod Sound
 pub mod Nested
 pub mod Shaped
 pub mod Vanishing
+pub mod Paired
 pub mod SameSets
 -- specs/Sisters: the premium on the straight way between two points, as a function of the moment
 pub mod Smooth
