@@ -1,5 +1,5 @@
 -- A line that passes the checks of 5, 6, 7 and 15 is that of a well formed operation, and the line of one passes them.
-use Prim.Native.Nat.{ℕ, zero, suc, _≤_}
+use Prim.Native.Nat.{ℕ, zero, suc, _^_, _≤_, _<_}
 use mathlib.Core.Bool.{Bool, true, false, cond, _&&_, false≢true}
 use mathlib.Core.Logic.{_⊎_, inl, inr, ⊎-elim}
 use mathlib.Core.Path.{_≡_, refl, sym, subst}
@@ -70,8 +70,8 @@ unfolding numeralOf
 abs-numeral (pos n) = refl
 abs-numeral (negsuc n) = refl
 
-pub plain-numeral : (n : ℕ) → n ≤ 255 → IsNumeral (plain n)
-plain-numeral n h = record { few = omega arith; some = λ a. absurd (false≢true a) }
+pub plain-numeral : (n : ℕ) → n < 10 ^ 10 → IsNumeral (plain n)
+plain-numeral n h = record { few = h; some = λ a. absurd (false≢true a) }
 
 pub constant-numeral : (z : ℤ) → natAbs z ≤ limit → IsNumeral (numeralOf z)
 unfolding numeralOf

@@ -1,8 +1,8 @@
--- The text of a well formed codelist has at most 1,261 bytes: the limit of 4,096 on a sheet's bytes is no condition on the codelist.
+-- A text of a well formed codelist has at most 1,266 bytes: the limit of 4,096 on a sheet's bytes is no condition on the codelist.
 use Prim.Native.Nat.{ℕ, suc, zero, _+_, _-_, _*_, _/_, _%_, _≤_, _<_}
 use mathlib.Core.Bool.{Bool, true, false, cond}
 use mathlib.Core.List.{List, [], _∷_, _++_}
-use mathlib.Core.Path.{_≡_, refl}
+use mathlib.Core.Path.{_≡_, refl, ap}
 use native.Mathlib.Decide.{decLt}
 use native.Mathlib.Omega.{arith}
 use lib.Dec.{ltb}
@@ -14,9 +14,10 @@ use Rattle.codelist.specs.declared.Numeral.{Numeral}
 use Rattle.codelist.specs.declared.Op.{Op}
 use Rattle.codelist.specs.declared.Op.the-variants.{Add, Mul, AddC, MulC, Pow, Inv}
 use Rattle.codelist.specs.Codelist.{WellFormedOp, WellFormedOps, WellFormed}
-use Rattle.codelist.specs.Text.{decimal, numeralText, lineText}
-use Rattle.codelist.specs.Write.{plain, numeralOf, textLineOf, opsText, textOf}
+use Rattle.codelist.specs.Text.{YearField, absent, decimal, numeralText, yearText, lineText}
+use Rattle.codelist.specs.Write.{plain, numeralOf, textLineOf, opsText, textWith, IsText, fieldOf, textOf}
 use Rattle.codelist.proofs.Ratable.{taken, well-formed-ratable}
+use Rattle.codelist.proofs.Years.{year-short, field-least}
 
 -- ---- the digits of a number
 pub one-digit : (k m : ℕ) → m < 10 → length (decimal k m) ≡ 1
@@ -92,11 +93,33 @@ ops-length e (x ∷ xs) w l = go (decLt e 10) (ops-length (e + 1) xs (w .1) (ome
           later = simp length-append (omega (arith, here, h .each));
         }
 
-pub text-length : (c : Codelist) → WellFormed c → length (textOf c) ≤ 1261
-unfolding textOf numeralText
-text-length c w =
+-- a text without its year
+bare-length : (c : Codelist) → WellFormed c → length (textWith absent c) ≤ 1261
+unfolding textWith numeralText
+bare-length c w =
     let n = c .factors in
     let xs = take (c .count) (c .ops) in
     let count = taken c (well-formed-ratable w) in
     let ops = ops-length n xs (w .each) (omega (arith, count, w .few)) in
     simp length-append (omega (arith, w .factors, one-digit 9 n (omega (arith, w .factors)), ops .later, count, w .few))
+
+-- the year field stands beside the rest
+pub longer-by : (f : YearField) (c : Codelist) → length (textWith f c) ≡ length (textWith absent c) + length (yearText f)
+unfolding textWith
+longer-by f c = simp length-append (omega arith)
+
+-- what is written for a codelist is the shortest of its texts
+pub shortest : (c : Codelist) (s : List ℕ) → IsText c s → length (textOf c) ≤ length s
+unfolding textOf
+shortest c s t =
+    omega (
+      arith,
+      longer-by (fieldOf (c .year)) c,
+      longer-by (t .field) c,
+      field-least (t .field) (c .year) (t .names),
+      ap length (t .text),
+    )
+
+pub text-length : (c : Codelist) → WellFormed c → (s : List ℕ) → IsText c s → length s ≤ 1266
+text-length c w s t =
+    omega (arith, bare-length c w, longer-by (t .field) c, year-short (t .field) (c .year) (t .names), ap length (t .text))

@@ -3,6 +3,7 @@ pub mod NumeralTexts
 pub mod LineTexts
 pub mod Places
 pub mod Checks
+pub mod Years
 pub mod Lengths
 pub mod Steps
 pub mod Loop

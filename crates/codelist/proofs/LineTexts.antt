@@ -1,4 +1,4 @@
--- An operation line is read exactly where its text stands.
+-- An operation line is read exactly where its text stands, and so is the first line.
 use Prim.Native.Nat.{ℕ, _≤_, _<_}
 use mathlib.Core.Bool.{Bool, true, cond, _&&_}
 use mathlib.Core.List.{List, [], _∷_, _++_, append-assoc}
@@ -8,15 +8,15 @@ use native.Mathlib.Decide.{ℕ-discrete}
 use native.Mathlib.Omega.{arith}
 use lib.Dec.{ltb, eqb, lit<}
 use borrow.Author.Tests.{eq-eqb, ne-eqb, ltb-true}
-use Rattle.codelist.specs.Text.{TextLine}
+use Rattle.codelist.specs.Text.{TextLine, YearField, absent, written}
 use Rattle.codelist.specs.Text.{Add, Mul, AddC, MulC, Pow, Inv}
 use Rattle.codelist.specs.declared.Numeral.{Numeral}
 use Rattle.codelist.specs.declared.lines.Word.{Word}
 use Rattle.codelist.specs.declared.lines.Word.the-variants as word
-use Rattle.codelist.specs.Text.{IsNumeral, HasNumerals, FirstAt, LineAt, numeralText, two, firstText, lineText, factors→, add→}
+use Rattle.codelist.specs.Text.{IsNumeral, HasNumerals, HasYear, FirstAt, LineAt, numeralText, two, firstText, lineText, factors→, add→}
 use Rattle.codelist.specs.Text.{mul→, addc→, mulc→, pow→, inv→}
 use Rattle.codelist.specs.Read.{Read, good, bad, next, _or_, peek, rest, digit, numeral, field, literal, named, keyword, pair, both}
-use Rattle.codelist.specs.Read.{operands, operationLine, firstLine}
+use Rattle.codelist.specs.Read.{operands, operationLine, firstFields, firstLine}
 use Rattle.codelist.proofs.Laws.{both-true}
 use Rattle.codelist.proofs.NumeralTexts.{NumeralAt, numeral-sound, numeral-complete, peek-cons, never}
 
@@ -49,6 +49,11 @@ field-sound e s w t h p = go (next-inv (numeral s) (λ v u. cond (eqb (peek u) e
 pub field-complete : (e : ℕ) (w : Numeral) (t : List ℕ) → IsNumeral w → 10 ≤ digit e → field e (numeralText w ++ (e ∷ t)) ≡ good w t
 unfolding field peek rest
 field-complete e w t f g = simp (numeral-complete w (e ∷ t) f g, eq-eqb e e refl)
+
+-- another byte after the numeral
+field-other : (e b : ℕ) (w : Numeral) (t : List ℕ) → IsNumeral w → 10 ≤ digit b → (b ≡ e → ⊥) → field e (numeralText w ++ (b ∷ t)) ≡ bad
+unfolding field peek
+field-other e b w t f g n = simp (numeral-complete w (b ∷ t) f g, ne-eqb b e n)
 
 -- Words
 abbrev pub allBytes : List ℕ → Bool
@@ -216,19 +221,57 @@ line-complete (Inv i) t f =
     simp append-assoc
     (after-word word.Inv (numeralText i ++ (10 ∷ t)) (Inv i) t (rw (field-complete 10 i t f (omega arith))))
 
--- The first line
-pub first-sound : (s : List ℕ) (w : Numeral) (t : List ℕ) → firstLine s ≡ good w t → FirstAt s w t
-unfolding firstLine
-first-sound s w t e = go (next-inv (literal factors→ s) (λ _ u. field 10 u) w t e)
-  where
-    go : (x : Unit) × (u : List ℕ) × (literal factors→ s ≡ good x u) × (field 10 u ≡ good w t) → FirstAt s w t
-    go (x, u, a, b) =
-        let n = field-sound 10 u w t (lit< tt) b in
-        record {
-          fine = n .fine;
-          text = literal-sound factors→ s x u refl a ∙ ap (λ (l : List ℕ). factors→ ++ l) (n .text) ∙ simp append-assoc;
-        }
+-- The first line: n and its year field
+abbrev counted : Numeral → YearField → Numeral × YearField
+counted n f = (n, f)
 
-pub first-complete : (w : Numeral) (t : List ℕ) → IsNumeral w → firstLine (firstText w ++ t) ≡ good w t
-unfolding firstLine literal peek rest digit
-first-complete w t f = simp append-assoc (field-complete 10 w t f (omega arith))
+-- n alone
+alone-sound : (s : List ℕ) (p : Numeral × YearField) (t : List ℕ) → next (field 10 s) (λ n u. good (counted n absent) u) ≡ good p t
+    → FirstAt (factors→ ++ s) (p .0) (p .1) t
+alone-sound s p t e = go (next-inv (field 10 s) (λ n u. good (counted n absent) u) p t e)
+  where
+    go : (n : Numeral) × (u : List ℕ) × (field 10 s ≡ good n u) × (good (counted n absent) u ≡ good p t) → FirstAt (factors→ ++ s) (p .0) (p .1) t
+    go (n, u, a, b) =
+        let m = field-sound 10 s n u (lit< tt) a in
+        let q : counted n absent ≡ p = cc b in
+        let r : u ≡ t = cc b in
+        subst (λ (z : Numeral × YearField). FirstAt (factors→ ++ s) (z .0) (z .1) t) q
+        (record {
+          fine = m .fine;
+          year = tt;
+          text = ap (λ (l : List ℕ). factors→ ++ l) (m .text) ∙ rw r (simp append-assoc);
+        })
+
+-- n and a year
+dated-sound : (s : List ℕ) (p : Numeral × YearField) (t : List ℕ) → next (pair s) (λ q u. good (counted (q .0) (written (q .1))) u) ≡ good p t
+    → FirstAt (factors→ ++ s) (p .0) (p .1) t
+dated-sound s p t e = go (next-inv (pair s) (λ q u. good (counted (q .0) (written (q .1))) u) p t e)
+  where
+    go : (q : Numeral × Numeral) × (u : List ℕ) × (pair s ≡ good q u) × (good (counted (q .0) (written (q .1))) u ≡ good p t)
+        → FirstAt (factors→ ++ s) (p .0) (p .1) t
+    go (q, u, a, b) =
+        let m = pair-sound s q u a in
+        let k : counted (q .0) (written (q .1)) ≡ p = cc b in
+        let r : u ≡ t = cc b in
+        subst (λ (z : Numeral × YearField). FirstAt (factors→ ++ s) (z .0) (z .1) t) k
+        (record {
+          fine = m .left;
+          year = m .right;
+          text = m .text factors→ ∙ ap (λ (l : List ℕ). two factors→ (q .0) (q .1) ++ l) r;
+        })
+
+pub first-sound : (s : List ℕ) (p : Numeral × YearField) (t : List ℕ) → firstLine s ≡ good p t → FirstAt s (p .0) (p .1) t
+unfolding firstLine firstFields
+first-sound s p t e = go (next-inv (literal factors→ s) (λ _ u. firstFields u) p t e)
+  where
+    go : (x : Unit) × (u : List ℕ) × (literal factors→ s ≡ good x u) × (firstFields u ≡ good p t) → FirstAt s (p .0) (p .1) t
+    go (x, u, a, b) =
+        subst (λ (l : List ℕ). FirstAt l (p .0) (p .1) t) (sym (literal-sound factors→ s x u refl a))
+        (⊎-elim (alone-sound u p t) (dated-sound u p t) (or-inv _ _ p t b))
+
+pub first-complete : (w : Numeral) (f : YearField) (t : List ℕ) → IsNumeral w → HasYear f → firstLine (firstText w f ++ t) ≡ good (counted w f) t
+unfolding firstLine firstFields literal peek rest digit
+first-complete w absent t g h = simp append-assoc (rw (field-complete 10 w t g (omega arith)))
+first-complete w (written y) t g h =
+    simp append-assoc
+    (rw (field-other 10 9 w (numeralText y ++ (10 ∷ t)) g (omega arith) (omega arith), pair-complete w y t g h))

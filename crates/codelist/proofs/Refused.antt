@@ -14,11 +14,11 @@ use Rattle.codelist.specs.declared.Numeral.{Numeral}
 use Rattle.codelist.specs.declared.Outcome.the-variants.{Refused}
 use Rattle.codelist.specs.declared.Refusal.{Refusal}
 use Rattle.codelist.specs.declared.Refusal.the-variants.{Malformed}
-use Rattle.codelist.specs.Text.{LineAt}
+use Rattle.codelist.specs.Text.{YearField, LineAt}
 use Rattle.codelist.specs.Read.{Read, good, bad, operationLine, firstLine}
 use Rattle.codelist.specs.Load.{refused, accepted, onFirst, operationLines, loadOf}
-use Rattle.codelist.specs.Refused.{Next, RefusedFor, too-long, no-first-line, malformed, factor-count, too-many-lines, no-operation}
-use Rattle.codelist.specs.Refused.{reference, exponent, constant, multiplier, RefusedExactly}
+use Rattle.codelist.specs.Refused.{Next, RefusedFor, too-long, no-first-line, malformed, factor-count, unknown-year, too-many-lines}
+use Rattle.codelist.specs.Refused.{no-operation, reference, exponent, constant, multiplier, RefusedExactly}
 use Rattle.codelist.proofs.LineTexts.{line-sound, line-complete, first-sound}
 use Rattle.codelist.proofs.Checks.{Broken, broken-reference, broken-exponent, broken-constant, broken-multiplier, fault-complete}
 use Rattle.codelist.proofs.Steps.{step-end, step-bad, step-full, step-fault}
@@ -45,27 +45,28 @@ breaks : (s : List ℕ) (n : ℕ) (done : List Entry) (l : TextLine) (t : List �
     → Broken (length done + 2) (n + length done) l r → loadOf s ≡ refused r
 breaks s n done l t r a b =
     resumed s n done (a .rest) (suc (63 - (n + length done))) (a .upto) (omega (arith, a .room))
-    ∙ step-fault n done (a .rest) l t (line-read (a .rest) l t (a .line)) (63 - (n + length done)) r (fault-complete _ _ l r b)
+    ∙ step-fault (a .upto .year) n done (a .rest) l t (line-read (a .rest) l t (a .line)) (63 - (n + length done)) r (fault-complete _ _ l r b)
 
 refused-complete : (s : List ℕ) (r : Refusal) → RefusedFor s r → loadOf s ≡ refused r
 unfolding loadOf
 refused-complete s r (too-long h) = rw (lt-leb (length s) 4096 h)
 refused-complete s r (no-first-line h none) = not-long s h ∙ go (firstLine s) refl
   where
-    go : (x : Read Numeral) → firstLine s ≡ x → onFirst x ≡ refused (Malformed 1)
+    go : (x : Read (Numeral × YearField)) → firstLine s ≡ x → onFirst x ≡ refused (Malformed 1)
     go bad e = refl
-    go (good w t) e = absurd (none w t (first-sound s w t e))
+    go (good p t) e = absurd (none (p .0) (p .1) t (first-sound s p t e))
 refused-complete s r (malformed {n} {done} {rest} u h none) =
     resumed s n done rest (64 - (n + length done)) u (omega (arith, u .few)) ∙ go (operationLine rest) refl
   where
-    go : (x : Read TextLine) → operationLine rest ≡ x → operationLines n (64 - (n + length done)) done rest ≡ refused
+    go : (x : Read TextLine) → operationLine rest ≡ x → operationLines (u .year) n (64 - (n + length done)) done rest ≡ refused
         (Malformed (length done + 2))
-    go bad e = step-bad n done rest (64 - (n + length done)) h e
+    go bad e = step-bad (u .year) n done rest (64 - (n + length done)) h e
     go (good l t) e = absurd (none l t (line-sound rest l t e))
-refused-complete s r (factor-count {w} {t} h a q) = first-read s w t h a ∙ rw q
+refused-complete s r (factor-count {w} {f} {t} h a q) = first-read s w f t h a ∙ rw q
+refused-complete s r (unknown-year {w} {f} {t} h a p q) = first-read s w f t h a ∙ rw (p, q)
 refused-complete s r (too-many-lines {n} {done} {rest} {l} {t} u a e) =
-    resumed s n done rest zero u (omega arith) ∙ step-full n done rest l t (line-read rest l t a)
-refused-complete s r (no-operation {n} u) = resumed s n [] [] (64 - (n + 0)) u (omega (arith, u .few)) ∙ step-end n [] (64 - (n + 0))
+    resumed s n done rest zero u (omega arith) ∙ step-full (u .year) n done rest l t (line-read rest l t a)
+refused-complete s r (no-operation {n} u) = resumed s n [] [] (64 - (n + 0)) u (omega (arith, u .few)) ∙ step-end (u .year) n [] (64 - (n + 0))
 refused-complete s r (reference {n} {done} {l} {t} a b) = breaks s n done l t _ a (broken-reference b)
 refused-complete s r (exponent {n} {done} {l} {t} a b c) = breaks s n done l t _ a (broken-exponent b c)
 refused-complete s r (constant {n} {done} {l} {t} a b c d) = breaks s n done l t _ a (broken-constant b c d)

@@ -1,9 +1,10 @@
 -- Loading: the whole codelist, or one refusal. 01, "Refusals that come from the input", 1 to 7, and "Loading: 1 first, then text lines
 -- from the top, within a line in the order 2, 3, 4, 5, 6, 7; a sheet without operations is found last." 02, request 5: 15, "with the text line as
--- place, checked right after 7 in its line".
+-- place, checked right after 7 in its line". Request 9: "Any other numeral there gets 17, text line 1, after 3".
 use Prim.Native.Nat.{ℕ, suc, zero, _+_, _-_, _^_, min}
 use mathlib.Core.Bool.{Bool, cond}
 use mathlib.Core.List.{List, [], _∷_, _++_}
+use mathlib.Core.Option.{Option, some, none}
 use lib.Dec.{leb}
 use lib.IntN.{ℤ, pos, negℤ}
 use lib.ListN.{length, replicate}
@@ -11,7 +12,7 @@ use Rattle.codelist.specs.declared.loading.Checked.{Checked}
 use Rattle.codelist.specs.declared.loading.Checked.the-variants.{Fine, Fault}
 use Rattle.codelist.specs.declared.Codelist.{Codelist}
 use Rattle.codelist.specs.declared.Entry.{Entry}
-use Rattle.codelist.specs.Text.{TextLine}
+use Rattle.codelist.specs.Text.{TextLine, YearField, yearOf}
 use Rattle.codelist.specs.Text.{Add, Mul, AddC, MulC, Pow, Inv}
 use Rattle.codelist.specs.declared.Loaded.{Loaded}
 use Rattle.codelist.specs.declared.Numeral.{Numeral}
@@ -19,8 +20,10 @@ use Rattle.codelist.specs.declared.Op.{Op}
 use Rattle.codelist.specs.declared.Op.the-variants as op
 use Rattle.codelist.specs.declared.Outcome.the-variants.{Accepted, Refused}
 use Rattle.codelist.specs.declared.Refusal.{Refusal}
-use Rattle.codelist.specs.declared.Refusal.the-variants.{TooLong, Malformed, FactorCount, TooManyLines, NoOperation, Reference}
+use Rattle.codelist.specs.declared.Refusal.the-variants.{TooLong, Malformed, FactorCount, UnknownYear, TooManyLines, NoOperation, Reference}
 use Rattle.codelist.specs.declared.Refusal.the-variants.{Exponent, Constant, ZeroMultiplier}
+use Rattle.codelist.specs.declared.Year.{Year}
+use Rattle.codelist.specs.declared.Year.the-variants.{Y2016}
 use Rattle.codelist.specs.Codelist.{blank}
 use Rattle.codelist.specs.Conditions.{isBetween, refersBack, exponentFits, constantFits, multiplierFits}
 use Rattle.codelist.specs.Read.{Read, good, bad, operationLine, firstLine}
@@ -30,6 +33,7 @@ abbrev pub numberOf : Refusal → ℕ
 numberOf TooLong = 1
 numberOf (Malformed p) = 2
 numberOf FactorCount = 3
+numberOf UnknownYear = 17
 numberOf (TooManyLines p) = 4
 numberOf NoOperation = 4
 numberOf (Reference p) = 5
@@ -41,6 +45,7 @@ abbrev pub placeOf : Refusal → ℕ
 placeOf TooLong = 0
 placeOf (Malformed p) = p
 placeOf FactorCount = 1
+placeOf UnknownYear = 1
 placeOf (TooManyLines p) = p
 placeOf NoOperation = 1
 placeOf (Reference p) = p
@@ -50,11 +55,11 @@ placeOf (ZeroMultiplier p) = p
 
 -- The numbers of loading, in the order of checking
 abbrev pub loadNumbers : List ℕ
-loadNumbers = 1 ∷ 2 ∷ 3 ∷ 4 ∷ 5 ∷ 6 ∷ 7 ∷ 15 ∷ []
+loadNumbers = 1 ∷ 2 ∷ 3 ∷ 17 ∷ 4 ∷ 5 ∷ 6 ∷ 7 ∷ 15 ∷ []
 
 -- "A refusal carries number and place, every other field is 0": the codelist is the empty one
 unfoldable pub empty : Codelist
-empty = record { factors = 0; count = 0; ops = replicate 64 blank }
+empty = record { year = Y2016; factors = 0; count = 0; ops = replicate 64 blank }
 
 abbrev pub refused : Refusal → Loaded
 refused r = record { outcome = Refused r; codelist = empty }
@@ -62,9 +67,9 @@ refused r = record { outcome = Refused r; codelist = empty }
 abbrev pub accepted : Codelist → Loaded
 accepted c = record { outcome = Accepted; codelist = c }
 
--- The codelist of n factors and the operations ops, which fill the array from the front
-unfoldable pub codelistOf : ℕ → List Entry → Codelist
-codelistOf n ops = record { factors = n; count = length ops; ops = ops ++ replicate (64 - length ops) blank }
+-- The codelist of the year y, n factors and the operations ops, which fill the array from the front
+unfoldable pub codelistOf : Year → ℕ → List Entry → Codelist
+codelistOf y n ops = record { year = y; factors = n; count = length ops; ops = ops ++ replicate (64 - length ops) blank }
 
 -- A numeral's value
 unfoldable pub valueOf : Numeral → ℤ
@@ -97,9 +102,9 @@ checkedOf p e l =
     (unless (multiplierFits l) (Fault (ZeroMultiplier p)) (Fine (opOf l)))))
 
 -- The end of the text, after the operations ops: there must be one
-abbrev pub ended : ℕ → List Entry → Loaded
-ended n [] = refused NoOperation
-ended n (x ∷ xs) = accepted (codelistOf n (x ∷ xs))
+abbrev pub ended : Year → ℕ → List Entry → Loaded
+ended y n [] = refused NoOperation
+ended y n (x ∷ xs) = accepted (codelistOf y n (x ∷ xs))
 
 -- What a checked line leads to
 abbrev pub onChecked : Checked → (Op → Loaded) → Loaded
@@ -116,19 +121,26 @@ abbrev pub atEnd : List ℕ → Loaded → Loaded → Loaded
 atEnd [] x y = x
 atEnd (b ∷ s) x y = y
 
--- The text lines after the operations ops, of a codelist with n factors and room for so many codelist lines more
-unfoldable pub operationLines : ℕ → ℕ → List Entry → List ℕ → Loaded
-operationLines n zero ops s =
-    atEnd s (ended n ops) (onLine (length ops + 2) (operationLine s) (λ l t. refused (TooManyLines (length ops + 2))))
-operationLines n (suc room) ops s =
-    atEnd s (ended n ops)
+-- The text lines after the operations ops, of a codelist with the year y, n factors and room for so many codelist lines more
+unfoldable pub operationLines : Year → ℕ → ℕ → List Entry → List ℕ → Loaded
+operationLines y n zero ops s =
+    atEnd s (ended y n ops) (onLine (length ops + 2) (operationLine s) (λ l t. refused (TooManyLines (length ops + 2))))
+operationLines y n (suc room) ops s =
+    atEnd s (ended y n ops)
     (onLine (length ops + 2) (operationLine s) (λ l t.
     onChecked (checkedOf (length ops + 2) (n + length ops) l) (λ o.
-    operationLines n room (ops ++ (record { op = o } ∷ [])) t)))
+    operationLines y n room (ops ++ (record { op = o } ∷ [])) t)))
 
--- What the first line leads to
-abbrev pub onFirst : Read Numeral → Loaded
-onFirst (good w s) = unless (isBetween 1 8 w) (refused FactorCount) (operationLines (w .magnitude) (64 - w .magnitude) [] s)
+-- What the year leads to: 17 where the field names none
+abbrev pub onYear : Option Year → (Year → Loaded) → Loaded
+onYear (some y) f = f y
+onYear none f = refused UnknownYear
+
+-- What the first line leads to: 3, then 17, then the operation lines
+abbrev pub onFirst : Read (Numeral × YearField) → Loaded
+onFirst (good (w, f) s) =
+    unless (isBetween 1 8 w) (refused FactorCount)
+    (onYear (yearOf f) (λ y. operationLines y (w .magnitude) (64 - w .magnitude) [] s))
 onFirst bad = refused (Malformed 1)
 
 -- LOADING

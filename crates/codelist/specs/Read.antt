@@ -1,10 +1,10 @@
--- The readers: what each finds at the front of the bytes that are left. 01, "The sheet".
+-- The readers: what each finds at the front of the bytes that are left. 01, "The sheet"; 02, request 9: the year.
 use Prim.Native.Nat.{ℕ, suc, zero, _+_, _-_, _*_}
 use mathlib.Core.Bool.{Bool, true, false, cond}
 use mathlib.Core.List.{List, [], _∷_}
 use lib.Dec.{leb, ltb, eqb}
 use lib.ListN.{length, drop}
-use Rattle.codelist.specs.Text.{TextLine}
+use Rattle.codelist.specs.Text.{TextLine, YearField, absent, written}
 use Rattle.codelist.specs.Text.{Add, Mul, AddC, MulC, Pow, Inv}
 use Rattle.codelist.specs.declared.Numeral.{Numeral}
 use Rattle.codelist.specs.declared.NumeralRead.{NumeralRead}
@@ -118,6 +118,10 @@ operands word.Inv s = next (field 10 s) (λ i t. good (Inv i) t)
 unfoldable pub operationLine : List ℕ → Read TextLine
 operationLine s = next (keyword s) operands
 
--- The first line: n
-unfoldable pub firstLine : List ℕ → Read Numeral
-firstLine s = next (literal factors→ s) (λ _ t. field 10 t)
+-- What follows the word of the first line: n, or n and the year
+unfoldable pub firstFields : List ℕ → Read (Numeral × YearField)
+firstFields s = next (field 10 s) (λ n t. good (n, absent) t) or next (pair s) (λ p t. good (p .0, written (p .1)) t)
+
+-- The first line
+unfoldable pub firstLine : List ℕ → Read (Numeral × YearField)
+firstLine s = next (literal factors→ s) (λ _ t. firstFields t)

@@ -1,10 +1,13 @@
--- The forms of a codelist's text lines. 01, "The sheet".
+-- The forms of a codelist's text lines. 01, "The sheet"; 02, request 9: the year.
 use Prim.Native.Nat.{ℕ, suc, zero, _+_, _/_, _%_, _^_, _≤_, _<_}
 use mathlib.Core.Bool.{true, cond}
 use mathlib.Core.List.{List, [], _∷_, _++_}
+use mathlib.Core.Option.{Option, some, none}
 use mathlib.Core.Path.{_≡_}
-use lib.Dec.{ltb}
+use lib.Dec.{ltb, eqb}
 use Rattle.codelist.specs.declared.Numeral.{Numeral}
+use Rattle.codelist.specs.declared.Year.{Year}
+use Rattle.codelist.specs.declared.Year.the-variants.{Y2016, Y2014}
 
 -- The words that a line begins with, the tab (byte 9, shown → in 01) after each included
 abbrev pub factors→ : List ℕ
@@ -42,9 +45,26 @@ decimal (suc k) m = cond (ltb m 10) ((48 + m) ∷ []) (decimal k (m / 10) ++ ((4
 unfoldable pub numeralText : Numeral → List ℕ
 numeralText w = cond (w .negative) (45 ∷ decimal 9 (w .magnitude)) (decimal 9 (w .magnitude))
 
+-- "The first line may carry a third field, the year" (02, request 9): it is absent, or a tab and a numeral
+pub data YearField : Type 0 where
+  absent : YearField
+  written : Numeral → YearField
+
+abbrev pub yearText : YearField → List ℕ
+yearText absent = []
+yearText (written w) = 9 ∷ numeralText w
+
 -- "Lines of text, each ended by byte 10, fields parted by one tab. The first line is `factors→n`."
-abbrev pub firstText : Numeral → List ℕ
-firstText n = factors→ ++ (numeralText n ++ (10 ∷ []))
+abbrev pub firstText : Numeral → YearField → List ℕ
+firstText n f = factors→ ++ (numeralText n ++ (yearText f ++ (10 ∷ [])))
+
+-- The year that a field names: "2016, or absent, means the rules so far; 2014 means source document 001", and "Any other numeral there" names none
+unfoldable pub yearOf : YearField → Option Year
+yearOf absent = some Y2016
+yearOf (written w) =
+    cond (w .negative) none
+    (cond (eqb (w .magnitude) 2016) (some Y2016)
+    (cond (eqb (w .magnitude) 2014) (some Y2014) none))
 
 -- "Then come operation lines: `add→i→j`, `mul→i→j`, `addc→i→c`, `mulc→i→c`, `pow→i→m`, `inv→i`."
 pub data TextLine : Type 0 where
@@ -71,10 +91,16 @@ HasNumerals (MulC i c) = IsNumeral i × IsNumeral c
 HasNumerals (Pow i m) = IsNumeral i × IsNumeral m
 HasNumerals (Inv i) = IsNumeral i
 
--- The text s is a first line with the numeral w, and then t
-pub record FirstAt (s : List ℕ) (w : Numeral) (t : List ℕ) : Type 0 where
+-- The year field, where there is one, is a numeral of any value
+abbrev pub HasYear : YearField → Type 0
+HasYear absent = Unit
+HasYear (written w) = IsNumeral w
+
+-- The text s is a first line with the numeral w and the year field f, and then t
+pub record FirstAt (s : List ℕ) (w : Numeral) (f : YearField) (t : List ℕ) : Type 0 where
   pub fine : IsNumeral w
-  pub text : s ≡ firstText w ++ t
+  pub year : HasYear f
+  pub text : s ≡ firstText w f ++ t
 
 -- The text s is the operation line l, and then t
 pub record LineAt (s : List ℕ) (l : TextLine) (t : List ℕ) : Type 0 where

@@ -1,8 +1,9 @@
 -- What the code's readers say of the text s that they read: a place is what is left of s there. For private contracts only.
 use Prim.Native.Nat.{ℕ, _≤_}
 use mathlib.Core.List.{List}
+use mathlib.Core.Option.{Option, some, none}
 use lib.ListN.{drop}
-use Rattle.codelist.specs.Text.{TextLine}
+use Rattle.codelist.specs.Text.{TextLine, YearField, absent, written}
 use Rattle.codelist.specs.Text.{Add, Mul, AddC, MulC, Pow, Inv}
 use Rattle.codelist.specs.declared.lines.LineParts.{LineParts}
 use Rattle.codelist.specs.declared.lines.LineRead as o
@@ -12,6 +13,10 @@ use Rattle.codelist.specs.declared.NumeralRead as n
 use Rattle.codelist.specs.declared.lines.Word.{Word}
 use Rattle.codelist.specs.declared.lines.Word.the-variants as word
 use Rattle.codelist.specs.declared.lines.WordRead as w
+use Rattle.codelist.specs.declared.lines.ThirdField as third
+use Rattle.codelist.specs.declared.lines.FirstRead as f
+use Rattle.codelist.specs.declared.loading.YearNamed as y
+use Rattle.codelist.specs.declared.Year.{Year}
 use Rattle.codelist.specs.Read.{Read, good, bad}
 use Rattle.exact.specs.Units.{limit}
 
@@ -42,6 +47,18 @@ textLine l = binaryOf (l .word) (l .left) (l .right)
 abbrev pub ofLine : List ℕ → o.LineRead → Read TextLine
 ofLine s (o.the-variants.Good r at) = good (textLine r) (drop at s)
 ofLine s o.the-variants.Bad = bad
+
+abbrev pub yearField : third.ThirdField → YearField
+yearField third.the-variants.Absent = absent
+yearField (third.the-variants.Written w) = written w
+
+abbrev pub ofFirst : List ℕ → f.FirstRead → Read (Numeral × YearField)
+ofFirst s (f.the-variants.Good n field at) = good (n, yearField field) (drop at s)
+ofFirst s f.the-variants.Bad = bad
+
+abbrev pub ofYear : y.YearNamed → Option Year
+ofYear (y.the-variants.Known year) = some year
+ofYear y.the-variants.Unknown = none
 
 -- The numbers of a line fit the operation's fields
 abbrev pub Fits : TextLine → Type 0

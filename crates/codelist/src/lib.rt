@@ -5,9 +5,12 @@ ghost use Rattle.codelist.specs.Read.{fieldFrom, pairFrom};
 ghost use Rattle.codelist.specs.Load.{numberOf, placeOf, empty, saturated, loadOf};
 
 mod lines; // lines.rt: the words, the operation lines and the first line of a text
-mod loading; // loading.rt: the conditions on a line, its operation, and the operation lines one after another
+mod loading; // loading.rt: the year, the conditions on a line, its operation, and the operation lines one after another
 mod numerals; // numerals.rt: bytes, digits and numerals of a text
 mod well_formed; // well_formed.rt: the references, exponents and constants of an operation
+
+use lines::FirstRead;
+use loading::YearNamed;
 
 // 01, "What the engine takes and gives": the bytes of a text, the lines of a codelist, the factors, and the limit on constants in units.
 const MOST_BYTES: usize = 4096;
@@ -41,20 +44,29 @@ pub struct Entry {
     pub op: Op,
 }
 
+// The year of the rules that a codelist is rated by (02, request 9): "2016, or absent, means the rules so far; 2014 means source document 001,
+// Table 2". An enum, so that no codelist has another one.
+pub enum Year {
+    Y2016,
+    Y2014,
+}
+
 // Codelist lines 1 to `factors` are the factors, and the next `count` ones are the operations, from the front of `ops`. Every
 // further entry is `Inv(0)`, which is no operation of a codelist.
 pub struct Codelist {
+    pub year: Year,
     pub factors: u8,
     pub count: u8,
     pub ops: [Entry; 64],
 }
 
 impl Codelist {
-    // The codelist of no text: no factors, no operations.
+    // The codelist of no text: no factors, no operations, and the rules so far.
     pub fn empty() -> Self
         ensures { λ r. ⌜ r ≡ empty ⌝ }
     {
         Self {
+            year: Year::Y2016,
             factors: 0,
             count: 0,
             ops: [Entry { op: Op::Inv(0) }; 64],
@@ -62,7 +74,7 @@ impl Codelist {
     }
 }
 
-// Why a text is refused: 01's refusals 1 to 7, and 15 of 02. The number held is that of the text line, from 1.
+// Why a text is refused: 01's refusals 1 to 7, and 15 and 17 of 02. The number held is that of the text line, from 1.
 pub enum Refusal {
     // 1: more than 4,096 bytes.
     TooLong,
@@ -70,6 +82,8 @@ pub enum Refusal {
     Malformed(u64),
     // 3: not 1 to 8 factors.
     FactorCount,
+    // 17: a year that is neither 2016 nor 2014.
+    UnknownYear,
     // 4: a codelist line beyond the 64th.
     TooManyLines(u64),
     // 4: no operation line.
@@ -93,6 +107,7 @@ impl Refusal {
             Refusal::TooLong => 1,
             Refusal::Malformed(_) => 2,
             Refusal::FactorCount => 3,
+            Refusal::UnknownYear => 17,
             Refusal::TooManyLines(_) => 4,
             Refusal::NoOperation => 4,
             Refusal::Reference(_) => 5,
@@ -110,6 +125,7 @@ impl Refusal {
             Refusal::TooLong => 0,
             Refusal::Malformed(line) => line,
             Refusal::FactorCount => 1,
+            Refusal::UnknownYear => 1,
             Refusal::TooManyLines(line) => line,
             Refusal::NoOperation => 1,
             Refusal::Reference(line) => line,
@@ -193,20 +209,25 @@ pub fn pair_at(s: &[u8], at: usize) -> PairRead
     }
 }
 
-// Loading (01, "The sheet" and refusals 1 to 7; 02's refusal 15): the whole codelist, or one refusal.
+// Loading (01, "The sheet" and refusals 1 to 7; 02's refusals 15 and 17): the whole codelist, or one refusal.
 pub fn load(bytes: &[u8]) -> Loaded
     ensures { λ r. ⌜ r ≡ loadOf (now (bytes .entry)) ⌝ }
 {
     if bytes.len() <= MOST_BYTES {
         match lines::first_line(bytes) {
-            NumeralRead::Good(n, t) => {
+            FirstRead::Good(n, field, t) => {
                 if loading::is_between(1, MOST_FACTORS, n) {
-                    loading::operation_lines(bytes, t, n.magnitude as usize)
+                    match loading::year_of(field) {
+                        YearNamed::Known(year) => {
+                            loading::operation_lines(bytes, t, year, n.magnitude as usize)
+                        }
+                        YearNamed::Unknown => loading::refuse(Refusal::UnknownYear),
+                    }
                 } else {
                     loading::refuse(Refusal::FactorCount)
                 }
             }
-            NumeralRead::Bad => loading::refuse(Refusal::Malformed(1)),
+            FirstRead::Bad => loading::refuse(Refusal::Malformed(1)),
         }
     } else {
         loading::refuse(Refusal::TooLong)

@@ -1,8 +1,8 @@
 // The lines of the text (01, "The sheet"): the words that they begin with, the operation lines, and the first line.
 ghost use mathlib.Core.Path.{_≡_};
 ghost use lib.ListN.{drop};
-ghost use Rattle.codelist.specs.Read.{_or_, literal, named, keyword, operands, operationLine, firstLine};
-ghost use Rattle.codelist.specs.Views.{ofNumeral, ofLiteral, ofWord, ofLine};
+ghost use Rattle.codelist.specs.Read.{_or_, literal, named, keyword, operands, operationLine, firstFields, firstLine};
+ghost use Rattle.codelist.specs.Views.{ofLiteral, ofWord, ofLine, ofFirst};
 use super::LINE_END;
 use super::Numeral;
 use super::NumeralRead;
@@ -39,6 +39,18 @@ enum WordRead {
 
 pub(crate) enum LineRead {
     Good(LineParts, usize),
+    Bad,
+}
+
+// The third field of the first line as it is written (02, request 9): none, or the numeral of a year.
+pub(crate) enum ThirdField {
+    Absent,
+    Written(Numeral),
+}
+
+// The first line: its n, its third field, and the place after it.
+pub(crate) enum FirstRead {
+    Good(Numeral, ThirdField, usize),
     Bad,
 }
 
@@ -124,12 +136,25 @@ pub(crate) fn line_at(s: &[u8], at: usize) -> LineRead
     }
 }
 
-// The first line of the form: its n.
-pub(crate) fn first_line(s: &[u8]) -> NumeralRead
-    ensures { λ r. ⌜ ofNumeral (now (s .entry)) r ≡ firstLine (now (s .entry)) ⌝ }
+// What follows the word of the first line: n alone, or n and the year.
+fn first_fields_at(s: &[u8], at: usize) -> FirstRead
+    ensures { λ r. ⌜ ofFirst (now (s .entry)) r ≡ firstFields (drop at (now (s .entry))) ⌝ }
+{
+    match super::field_at(s, at, LINE_END) {
+        NumeralRead::Good(n, t) => FirstRead::Good(n, ThirdField::Absent, t),
+        NumeralRead::Bad => match super::pair_at(s, at) {
+            PairRead::Good(n, y, t) => FirstRead::Good(n, ThirdField::Written(y), t),
+            PairRead::Bad => FirstRead::Bad,
+        },
+    }
+}
+
+// The first line of the form.
+pub(crate) fn first_line(s: &[u8]) -> FirstRead
+    ensures { λ r. ⌜ ofFirst (now (s .entry)) r ≡ firstLine (now (s .entry)) ⌝ }
 {
     match literal_at(s, 0, b"factors\t") {
-        LiteralRead::Good(t) => super::field_at(s, t, LINE_END),
-        LiteralRead::Bad => NumeralRead::Bad,
+        LiteralRead::Good(t) => first_fields_at(s, t),
+        LiteralRead::Bad => FirstRead::Bad,
     }
 }

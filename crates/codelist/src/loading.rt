@@ -1,10 +1,12 @@
-// Loading (01's refusals 3 to 7, 02's refusal 15): the conditions on the numbers of a line, its operation, and the operation lines one after another.
+// Loading (01's refusals 3 to 7, 02's refusals 15 and 17): the year, the conditions on the numbers of a line, its operation, and the operation lines one
+// after another.
 ghost use mathlib.Core.Path.{_≡_};
 ghost use mathlib.Core.List.{[]};
 ghost use Prim.Native.Nat.{_≤_, _-_};
 ghost use lib.ListN.{drop};
 ghost use Rattle.codelist.specs.Conditions.{isBetween, refersBack, exponentFits, constantFits, multiplierFits};
-ghost use Rattle.codelist.specs.Views.{textLine, Fits};
+ghost use Rattle.codelist.specs.Text.{yearOf};
+ghost use Rattle.codelist.specs.Views.{textLine, yearField, ofYear, Fits};
 ghost use Rattle.codelist.specs.Load.{refused, opOf, checkedOf, operationLines};
 use super::Codelist;
 use super::Entry;
@@ -15,15 +17,23 @@ use super::Numeral;
 use super::Op;
 use super::Outcome;
 use super::Refusal;
+use super::Year;
 use super::lines;
 use super::lines::LineParts;
 use super::lines::LineRead;
+use super::lines::ThirdField;
 use super::lines::Word;
 
 // An operation line that keeps the rules, or the refusal of one that does not.
 enum Checked {
     Fine(Op),
     Fault(Refusal),
+}
+
+// The year that a field names, or that it names none.
+pub(crate) enum YearNamed {
+    Known(Year),
+    Unknown,
 }
 
 // low ≤ w ≤ high.
@@ -37,6 +47,26 @@ pub(crate) fn is_between(low: u64, high: u64, w: Numeral) -> bool
         w.magnitude <= high
     } else {
         false
+    }
+}
+
+// 17: absent or 2016, and 2014, are years, and no other numeral is.
+pub(crate) fn year_of(field: ThirdField) -> YearNamed
+    ensures { λ r. ⌜ ofYear r ≡ yearOf (yearField field) ⌝ }
+{
+    match field {
+        ThirdField::Absent => YearNamed::Known(Year::Y2016),
+        ThirdField::Written(w) => {
+            if w.negative {
+                return YearNamed::Unknown;
+            }
+            let year = w.magnitude;
+            match year {
+                2016 => YearNamed::Known(Year::Y2016),
+                2014 => YearNamed::Known(Year::Y2014),
+                _ => YearNamed::Unknown,
+            }
+        }
     }
 }
 
@@ -149,10 +179,10 @@ pub(crate) fn refuse(why: Refusal) -> Loaded
     }
 }
 
-// The operation lines, from a place on, of a codelist with n factors.
-pub(crate) fn operation_lines(s: &[u8], from: usize, n: usize) -> Loaded
+// The operation lines, from a place on, of a codelist with a year and n factors.
+pub(crate) fn operation_lines(s: &[u8], from: usize, year: Year, n: usize) -> Loaded
     requires { ⌜ n ≤ 8 ⌝ }
-    ensures { λ r. ⌜ r ≡ operationLines n (64 - n) [] (drop from (now (s .entry))) ⌝ }
+    ensures { λ r. ⌜ r ≡ operationLines year n (64 - n) [] (drop from (now (s .entry))) ⌝ }
 {
     let mut ops = [Entry { op: Op::Inv(0) }; 64];
     let mut count: usize = 0;
@@ -187,6 +217,7 @@ pub(crate) fn operation_lines(s: &[u8], from: usize, n: usize) -> Loaded
     Loaded {
         outcome: Outcome::Accepted,
         codelist: Codelist {
+            year: year,
             factors: n as u8,
             count: count as u8,
             ops: ops,

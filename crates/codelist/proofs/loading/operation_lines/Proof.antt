@@ -8,13 +8,13 @@ use Rattle.codelist.proofs.loading.operation_lines.Statement.{statement
 use Rattle.codelist.proofs.loading.operation_lines.Tie as tie
 
 abbrev Inv-loop : tie.InvT-loop
-Inv-loop s from n ops₀ count₀ at₀ ops count at = Going s from n ops count at
+Inv-loop s from year n ops₀ count₀ at₀ ops count at = Going s from year n ops count at
 
 abbrev μ-loop : tie.MeasureT-loop
-μ-loop s from n ops₀ count₀ at₀ ops count at = 64 - (n + count)
+μ-loop s from year n ops₀ count₀ at₀ ops count at = 64 - (n + count)
 
 loop-holds : tie.Need-loop-holds Inv-loop μ-loop
-loop-holds c = start _ _ _ (c .before .pre)
+loop-holds c = start _ _ _ _ (c .before .pre)
 
 add-place : tie.Need-add-place Inv-loop μ-loop
 add-place c = search needs
@@ -39,7 +39,7 @@ returns c =
     let s = a .s .now in
     let e = sym (r .before .before .line-at .ensures) ∙ ap (ofLine s) (r .line .given .1) in
     c .refuse .ensures
-    ∙ leave-full s (a .from) (a .n) (l .loop .ops) (l .loop .count) (l .loop .at) (l .loop .inv) _ _ e (c .before .if1 .taken)
+    ∙ leave-full s (a .from) (a .year) (a .n) (l .loop .ops) (l .loop .count) (l .loop .at) (l .loop .inv) _ _ e (c .before .if1 .taken)
 
 check-line-requires : tie.Need-check-line-requires Inv-loop μ-loop
 check-line-requires c κs = search needs
@@ -67,7 +67,7 @@ loop-again c =
     let s = a .s .now in
     let e = sym (r .before .before .line-at .ensures) ∙ ap (ofLine s) (r .line .given .1) in
     let q = c .before in
-    turn s (a .from) (a .n) (l .loop .ops) (l .loop .count) (l .loop .at) (l .loop .inv) _ _ _ e (q .before .before .before .if1 .left)
+    turn s (a .from) (a .year) (a .n) (l .loop .ops) (l .loop .count) (l .loop .at) (l .loop .inv) _ _ _ e (q .before .before .before .if1 .left)
     (sym (q .op .given .1) ∙ q .before .before .check-line .ensures)
 
 enum-known-why : tie.Need-enum-known-why Inv-loop μ-loop
@@ -85,7 +85,7 @@ returns-2 c =
     let e = sym (r .before .before .line-at .ensures) ∙ ap (ofLine s) (r .line .given .1) in
     let q = c .before .before in
     c .refuse2 .ensures
-    ∙ leave-fault s (a .from) (a .n) (l .loop .ops) (l .loop .count) (l .loop .at) (l .loop .inv) _ _ e _
+    ∙ leave-fault s (a .from) (a .year) (a .n) (l .loop .ops) (l .loop .count) (l .loop .at) (l .loop .inv) _ _ e _
     (q .before .before .before .if1 .left)
     (sym (q .why .given .1) ∙ q .before .before .check-line .ensures)
 
@@ -102,7 +102,7 @@ returns-3 c =
     let a = l .before .before .args in
     let s = a .s .now in
     c .refuse3 .ensures
-    ∙ leave-bad s (a .from) (a .n) (l .loop .ops) (l .loop .count) (l .loop .at) (l .loop .inv) (m .before .loop-test .taken)
+    ∙ leave-bad s (a .from) (a .year) (a .n) (l .loop .ops) (l .loop .count) (l .loop .at) (l .loop .inv) (m .before .loop-test .taken)
     (sym (m .line-at .ensures) ∙ ap (ofLine s) (c .before .enum-told .given .1))
 
 refuse-requires-4 : tie.Need-refuse-requires-4 Inv-loop μ-loop
@@ -113,20 +113,20 @@ returns-4 c =
     let l = c .before .before .before in
     let a = l .before .before .args in
     c .refuse4 .ensures
-    ∙ leave-none (a .s .now) (a .from) (a .n) (l .loop .ops) (l .loop .count) (l .loop .at) (l .loop .inv)
+    ∙ leave-none (a .s .now) (a .from) (a .year) (a .n) (l .loop .ops) (l .loop .count) (l .loop .at) (l .loop .inv)
     (c .before .before .loop-test .left) (c .before .if2 .taken)
-
-cast-t31 : tie.Need-cast-t31 Inv-loop μ-loop
-cast-t31 c = search needs
 
 cast-t32 : tie.Need-cast-t32 Inv-loop μ-loop
 cast-t32 c = search needs
+
+cast-t33 : tie.Need-cast-t33 Inv-loop μ-loop
+cast-t33 c = search needs
 
 returns-5 : tie.Need-returns-5 Inv-loop μ-loop
 returns-5 c =
     let l = c .before .before in
     let a = l .before .before .args in
-    leave-done (a .s .now) (a .from) (a .n) (l .loop .ops) (l .loop .count) (l .loop .at) (l .loop .inv) (c .before .loop-test .left)
+    leave-done (a .s .now) (a .from) (a .year) (a .n) (l .loop .ops) (l .loop .count) (l .loop .at) (l .loop .inv) (c .before .loop-test .left)
     (c .if2 .left)
 
 pub operation-lines-spec : {M : Type 1} → statement M
@@ -157,6 +157,6 @@ operation-lines-spec =
     returns-3
     refuse-requires-4
     returns-4
-    cast-t31
     cast-t32
+    cast-t33
     returns-5)
