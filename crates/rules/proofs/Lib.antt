@@ -35,10 +35,11 @@ pub mod Overflow
 pub mod Stopped
 pub mod FirstBad
 pub mod Refused
--- specs/TableTwo: the rows of 2014
+-- specs/TableTwo: the rows of 2014, and specs/Published: the arithmetic without a limit
 pub mod TableTwo
--- specs/Published: the arithmetic without a limit
 pub mod Published
+-- specs/Years: what the year says of the sets
+pub mod Years
 -- specs/Sharper: request 4 beside 01's rule
 pub mod Half
 pub mod Exchanged

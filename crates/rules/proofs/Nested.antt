@@ -1,4 +1,4 @@
--- The bent set lies within the depends-on set: `nested`. Each row keeps this. Assumes nothing.
+-- In 2016 the bent set lies within the depends-on set. Each row keeps this. Assumes nothing.
 use mathlib.Core.Path.{_≡_, refl}
 use mathlib.Core.List.{List}
 use mathlib.Core.Option.{Option}
@@ -18,7 +18,6 @@ use Rattle.rules.specs.Table.{reach, factorRow, addRow, addcRow, mulcRow
 use Rattle.rules.specs.Run.{line, rowOf, alwaysBent}
 use Rattle.rules.specs.Rate.{pairs, limitsOf, rated, rateOf}
 use Rattle.rules.specs.Exact.{Point, Jet}
-use Rattle.rules.specs.Promises.{NestedRating}
 use Rattle.rules.proofs.Members.{_⊆_, ⊆-refl, ⊆-union, union-in, none-in}
 use Rattle.rules.proofs.Along.{Along, along-line, Kept}
 use Rattle.rules.proofs.Accepted.{accepted, last-line}
@@ -48,16 +47,3 @@ nested-kept = record { next = λ o f r t. nested-next r o f }
 pub factor-nested : {f : ℕ} (i : ℕ) (r : Range) → f ≡ none → lineOf (factorRow f i r) .nonlinear ⊆ lineOf (factorRow f i r) .support
 unfolding factorRow lineOf
 factor-nested i r e = rw e (none-in (single i))
-
-always-none : (c : Codelist) → alwaysBent c ≡ none
-unfolding alwaysBent
-always-none c = refl
-
-pub nested-sets : (c : Codelist) (xs : List ℤ) (l : Limits) → rateOf c xs ≡ rated l → l .nonlinear ⊆ l .support
-unfolding limitsOf
-nested-sets c xs l e =
-    rw (accepted c xs l e .limits)
-    (last-line NestedLine nested-kept (accepted c xs l e) (λ a k. factor-nested a (at (pairs xs) a) (always-none c)))
-
-pub nested : NestedRating
-nested c xs l e = record { into = nested-sets c xs l e .into }

@@ -12,6 +12,9 @@ use lib.ListN.{getD, length, take, length-append, length-take, List·getD-append
 use borrow.Author.Tests.{eqb-true}
 use Rattle.codelist.specs.declared.Entry.{Entry}
 use Rattle.codelist.specs.declared.Codelist.{Codelist}
+use Rattle.codelist.specs.declared.Op.{Op}
+use Rattle.codelist.specs.declared.Year.{Year}
+use Rattle.codelist.specs.declared.Year.the-variants.{Y2016, Y2014}
 use Rattle.codelist.specs.Codelist.{WellFormedOps, Ratable, blank, ratable}
 use Rattle.codelist.proofs.Ratable.{decides}
 use Rattle.range.specs.declared.Range.{Range}
@@ -27,10 +30,10 @@ use Rattle.rules.specs.declared.Refusal.the-variants.{NoCodelist, RangeC
 use Rattle.rules.specs.Formula.{Formula, given, sticky, unlimited, produced}
 use Rattle.rules.specs.Sets.{allOf}
 use Rattle.rules.specs.Table.{Row, factorRow, extended, eight, lineOf}
-use Rattle.rules.specs.Run.{noLine, line, rowOf, invertsZero, eachValid, within, Lines, through, stopped, runOps, factorLines, alwaysBent, linesOf, operations}
+use Rattle.rules.specs.Run.{noLine, line, rowOf, invertsZero, eachValid, within, Lines, through, stopped, runOps, factorLines, bentIn, alwaysBent, linesOf, operations}
 use Rattle.rules.specs.Rate.{last, limitsOf, rated, refused, pairs, finished, firstBad, rateRanges, rateOf}
 use Rattle.rules.specs.Overflow.{allWithin, stepsOf, AllLines, none, more}
-use Rattle.rules.specs.Published.{publishedLine, publishedFactors, publishedOps, publishedLimits, publishedResult, publishedRanges, publishedOf}
+use Rattle.rules.specs.Published.{publishedLine, publishedFactors, publishedRow, publishedOps, publishedLimits, publishedResult, publishedRanges, publishedOf}
 use Rattle.rules.specs.Published.{PublishedLines, Published}
 use Rattle.rules.proofs.Formulas.{Proper, limited}
 use Rattle.rules.proofs.Overflow.{all, ProperRow, valid-line, extended-proper, proper, exact-overflow}
@@ -38,6 +41,7 @@ use Rattle.rules.proofs.Accepted.{Accepted, accepted, pairs-length}
 use Rattle.rules.proofs.Stopped.{LinesWithin, run-within, all-snoc}
 use Rattle.rules.proofs.FirstBad.{Good, Found, no-bad, bad-at, found, all-good, factors-within}
 use Rattle.rules.proofs.Sound.{full-within}
+use Rattle.rules.proofs.TableTwo.{bent-factors, run-in-2014}
 
 -- ---- a line
 -- a valid range is the value without a limit
@@ -74,7 +78,7 @@ published-line r p w =
 
 -- ---- a run
 pub published-ops : (os : List Entry) (ls : List Line) → WellFormedOps (length ls) os → AllLines (λ l. within l ≡ true) ls
-    → runOps os ls ≡ publishedOps os ls
+    → runOps os ls ≡ publishedOps rowOf os ls
 unfolding runOps publishedOps
 published-ops [] ls w p = refl
 published-ops (o ∷ os) ls w p = turn (published-ops os) (invertsZero (o .op) ls) refl (allWithin (stepsOf row)) refl _ _
@@ -86,17 +90,17 @@ published-ops (o ∷ os) ls w p = turn (published-ops os) (invertsZero (o .op) l
     next = lineOf row
 
     Rest : Type 0
-    Rest = (ms : List Line) → WellFormedOps (length ms) os → AllLines (λ l. within l ≡ true) ms → runOps os ms ≡ publishedOps os ms
+    Rest = (ms : List Line) → WellFormedOps (length ms) os → AllLines (λ l. within l ≡ true) ms → runOps os ms ≡ publishedOps rowOf os ms
 
     goes-on : Rest → invertsZero (o .op) ls ≡ false → within next ≡ true
-        → runOps os (ls ++ (next ∷ [])) ≡ publishedOps os (ls ++ (publishedLine row ∷ []))
+        → runOps os (ls ++ (next ∷ [])) ≡ publishedOps rowOf os (ls ++ (publishedLine row ∷ []))
     goes-on rest z t =
         let e : next ≡ publishedLine row = published-line row (proper ls p (o .op) (w .0) z) t in
         rest (ls ++ (next ∷ [])) (rw (length-append ls (next ∷ [])) (w .1)) (all-snoc next p t)
-        ∙ ap (λ (l : Line). publishedOps os (ls ++ (l ∷ []))) e
+        ∙ ap (λ (l : Line). publishedOps rowOf os (ls ++ (l ∷ []))) e
 
     turn : Rest → (b : Bool) → invertsZero (o .op) ls ≡ b → (c : Bool) → allWithin (stepsOf row) ≡ c → (d x : Lines)
-        → cond b d (cond (within next) (runOps os (ls ++ (next ∷ []))) x) ≡ cond b d (cond c (publishedOps os (ls ++ (publishedLine row ∷ []))) x)
+        → cond b d (cond (within next) (runOps os (ls ++ (next ∷ []))) x) ≡ cond b d (cond c (publishedOps rowOf os (ls ++ (publishedLine row ∷ []))) x)
     turn rest true z c e d x = refl
     turn rest false z true e d x = let t : within next ≡ true = exact-overflow (o .op) ls (w .0) p z ∙ e in rw t (goes-on rest z t)
     turn rest false z false e d x = let t : within next ≡ false = exact-overflow (o .op) ls (w .0) p z ∙ e in rw t
@@ -106,6 +110,11 @@ published-factors : (f i : ℕ) (rs : List Range) → factorLines f i rs ≡ pub
 unfolding factorLines publishedFactors lineOf publishedLine factorRow unlimited
 published-factors f i [] = refl
 published-factors f i (r ∷ rs) = ap (λ (ls : List Line). lineOf (factorRow f i r) ∷ ls) (published-factors f (suc i) rs)
+
+factors-count : (f i : ℕ) (rs : List Range) → length (publishedFactors f i rs) ≡ length rs
+unfolding publishedFactors
+factors-count f i [] = refl
+factors-count f i (r ∷ rs) = ap suc (factors-count f (suc i) rs)
 
 -- ---- the result
 last-within : {ls : List Line} → AllLines (λ l. within l ≡ true) ls → within (last ls) ≡ true
@@ -134,13 +143,27 @@ module _ (c : Codelist) (rs : List Range) (w : Ratable c) (count : length rs ≡
   first : LinesWithin (c .factors) (factorLines (alwaysBent c) 0 rs)
   first = let f = factors-within (alwaysBent c) 0 rs g in record { each = f .each; count = f .count ∙ count }
 
-  ops : linesOf c rs ≡ publishedOps (operations c) (publishedFactors (alwaysBent c) 0 rs)
+  abbrev row : Op → List Line → Row
+  row = publishedRow (c .year) (c .factors)
+
+  -- in 2014 01's rows are Table 2's
+  by-year : (y : Year) → let fs = publishedFactors (bentIn y (c .factors)) 0 rs in
+      publishedOps rowOf (operations c) fs ≡ publishedOps (publishedRow y (c .factors)) (operations c) fs
+  unfolding publishedRow bentIn
+  by-year Y2016 = refl
+  by-year Y2014 =
+      run-in-2014 (c .factors) (w .factors .0) (w .factors .1) (operations c) _
+      (rw (factors-count (allOf (c .factors)) 0 rs, count) (w .each))
+      (bent-factors (c .factors) 0 rs (omega (arith, count)))
+
+  ops : linesOf c rs ≡ publishedOps row (operations c) (publishedFactors (alwaysBent c) 0 rs)
   unfolding linesOf
   ops =
       published-ops (operations c) (factorLines (alwaysBent c) 0 rs) (rw (first .count) (w .each)) (first .each)
-      ∙ ap (publishedOps (operations c)) (published-factors (alwaysBent c) 0 rs)
+      ∙ ap (publishedOps rowOf (operations c)) (published-factors (alwaysBent c) 0 rs)
+      ∙ by-year (c .year)
 
-  finish : finished (c .factors) (linesOf c rs) ≡ publishedResult (c .factors) (publishedOps (operations c) (publishedFactors (alwaysBent c) 0 rs))
+  finish : finished (c .factors) (linesOf c rs) ≡ publishedResult (c .factors) (publishedOps row (operations c) (publishedFactors (alwaysBent c) 0 rs))
   unfolding linesOf
   finish = go (linesOf c rs) refl ∙ ap (publishedResult (c .factors)) ops
     where
@@ -190,29 +213,29 @@ module _ (fs new : List Line) {ms : List Line} (e : ms ≡ fs ++ new) {n : ℕ} 
           rw s (ap (λ (ns : List Line). l ∷ ns) (go ls))
 
 -- what a run that goes through adds
-record Added (os : List Entry) (ls ms : List Line) : Type 0 where
+record Added (row : Op → List Line → Row) (os : List Entry) (ls ms : List Line) : Type 0 where
   new : List Line
   whole : ms ≡ ls ++ new
   count : length new ≡ length os
-  each : (k : ℕ) → k < length os → getD new k noLine ≡ publishedLine (rowOf (getD os k blank .op) (ls ++ take k new))
+  each : (k : ℕ) → k < length os → getD new k noLine ≡ publishedLine (row (getD os k blank .op) (ls ++ take k new))
 
 through-not : {r : Refusal} {ms : List Line} → stopped r ≡ through ms → ⊥
 through-not e = let z : _≡_ {A = ℕ} 0 1 = cc in omega arith
 
-added : (os : List Entry) (ls ms : List Line) → publishedOps os ls ≡ through ms → Added os ls ms
+added : (row : Op → List Line → Row) (os : List Entry) (ls ms : List Line) → publishedOps row os ls ≡ through ms → Added row os ls ms
 unfolding publishedOps
-added [] ls ms e = let s : ls ≡ ms = cc in record {
+added row [] ls ms e = let s : ls ≡ ms = cc in record {
   new = [];
   whole = sym s ∙ sym (append-nil ls);
   count = refl;
   each = λ k i. absurd (omega arith);
 }
-added (o ∷ os) ls ms e = turn (added os (ls ++ (next ∷ [])) ms) (invertsZero (o .op) ls) (allWithin (stepsOf (rowOf (o .op) ls))) _ _ e
+added row (o ∷ os) ls ms e = turn (added row os (ls ++ (next ∷ [])) ms) (invertsZero (o .op) ls) (allWithin (stepsOf (row (o .op) ls))) _ _ e
   where
     next : Line
-    next = publishedLine (rowOf (o .op) ls)
+    next = publishedLine (row (o .op) ls)
 
-    behind : Added os (ls ++ (next ∷ [])) ms → Added (o ∷ os) ls ms
+    behind : Added row os (ls ++ (next ∷ [])) ms → Added row (o ∷ os) ls ms
     behind a = record {
       new = next ∷ a .new;
       whole = a .whole ∙ append-assoc ls (next ∷ []) (a .new);
@@ -220,14 +243,14 @@ added (o ∷ os) ls ms e = turn (added os (ls ++ (next ∷ [])) ms) (invertsZero
       each = each;
     }
       where
-        each : (k : ℕ) → k < suc (length os) → getD (next ∷ a .new) k noLine ≡ publishedLine (rowOf (getD (o ∷ os) k blank .op) (ls ++ take k (next ∷ a .new)))
-        each zero i = ap (λ (ns : List Line). publishedLine (rowOf (o .op) ns)) (sym (append-nil ls))
+        each : (k : ℕ) → k < suc (length os) → getD (next ∷ a .new) k noLine ≡ publishedLine (row (getD (o ∷ os) k blank .op) (ls ++ take k (next ∷ a .new)))
+        each zero i = ap (λ (ns : List Line). publishedLine (row (o .op) ns)) (sym (append-nil ls))
         each (suc k) i =
             a .each k (omega arith)
-            ∙ ap (λ (ns : List Line). publishedLine (rowOf (getD os k blank .op) ns)) (append-assoc ls (next ∷ []) (take k (a .new)))
+            ∙ ap (λ (ns : List Line). publishedLine (row (getD os k blank .op) ns)) (append-assoc ls (next ∷ []) (take k (a .new)))
 
-    turn : (publishedOps os (ls ++ (next ∷ [])) ≡ through ms → Added os (ls ++ (next ∷ [])) ms) → (b d : Bool) (q r : Refusal)
-        → cond b (stopped q) (cond d (publishedOps os (ls ++ (next ∷ []))) (stopped r)) ≡ through ms → Added (o ∷ os) ls ms
+    turn : (publishedOps row os (ls ++ (next ∷ [])) ≡ through ms → Added row os (ls ++ (next ∷ [])) ms) → (b d : Bool) (q r : Refusal)
+        → cond b (stopped q) (cond d (publishedOps row os (ls ++ (next ∷ []))) (stopped r)) ≡ through ms → Added row (o ∷ os) ls ms
     turn f true d q r e = absurd (through-not e)
     turn f false true q r e = behind (f e)
     turn f false false q r e = absurd (through-not e)
@@ -241,11 +264,6 @@ factor-at f i (r ∷ rs) (suc a) l =
     let e : suc i + a ≡ i + suc a = omega arith in
     factor-at f (suc i) rs a (omega arith) ∙ ap (λ (k : ℕ). publishedLine (factorRow f k (at rs a))) e
 
-factors-count : (f i : ℕ) (rs : List Range) → length (publishedFactors f i rs) ≡ length rs
-unfolding publishedFactors
-factors-count f i [] = refl
-factors-count f i (r ∷ rs) = ap suc (factors-count f (suc i) rs)
-
 -- the limits of accepted ranges are those of the last of such lines
 module _ {c : Codelist} {xs : List ℤ} {l : Limits} (A : Accepted c xs l) where
   good : Good (length (pairs xs)) (pairs xs)
@@ -257,9 +275,9 @@ module _ {c : Codelist} {xs : List ℤ} {l : Limits} (A : Accepted c xs l) where
   firsts-count : length firsts ≡ c .factors
   firsts-count = factors-count (alwaysBent c) 0 (pairs xs) ∙ A .count
 
-  rest : Added (operations c) firsts (A .lines)
+  rest : Added (publishedRow (c .year) (c .factors)) (operations c) firsts (A .lines)
   unfolding linesOf
-  rest = added (operations c) firsts (A .lines) (sym (ops c (pairs xs) (A .codelist) (A .count) good) ∙ A .ran)
+  rest = added _ (operations c) firsts (A .lines) (sym (ops c (pairs xs) (A .codelist) (A .count) good) ∙ A .ran)
 
   operations-count : length (operations c) ≡ c .count
   operations-count = length-take (c .count) (c .ops) ∙ omega (arith, A .codelist .array, A .codelist .few)
@@ -279,7 +297,7 @@ module _ {c : Codelist} {xs : List ℤ} {l : Limits} (A : Accepted c xs l) where
     operation = λ k i.
         line-behind firsts (rest .new) (rest .whole) firsts-count k
         ∙ rest .each k (omega (arith, operations-count))
-        ∙ ap (λ (ns : List Line). publishedLine (rowOf (getD (operations c) k blank .op) ns)) (sym (take-behind firsts (rest .new) (rest .whole) firsts-count k));
+        ∙ ap (λ (ns : List Line). publishedLine (publishedRow (c .year) (c .factors) (getD (operations c) k blank .op) ns)) (sym (take-behind firsts (rest .new) (rest .whole) firsts-count k));
     result = A .limits ∙ published-limits (c .factors) (last (A .lines)) (last-within lines-within);
   }
 

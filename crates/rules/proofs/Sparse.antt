@@ -13,6 +13,8 @@ use lib.Pow.{pow-lt, pow-pos}
 use Rattle.codelist.specs.declared.Op.{Op}
 use Rattle.codelist.specs.declared.Op.the-variants.{Add, Mul, AddC, MulC, Pow, Inv}
 use Rattle.codelist.specs.declared.Codelist.{Codelist}
+use Rattle.codelist.specs.declared.Year.{Year}
+use Rattle.codelist.specs.declared.Year.the-variants.{Y2016, Y2014}
 use Rattle.codelist.specs.Codelist.{Earlier, WellFormedOp}
 use Rattle.exact.specs.Div.{floorDiv, ceilDiv}
 use Rattle.range.specs.declared.Range.{Range}
@@ -26,7 +28,7 @@ use Rattle.rules.specs.Formula.{sticky}
 use Rattle.rules.specs.Sets.{none, allOf, _∪_}
 use native.Mathlib.Omega.{arith}
 use Rattle.rules.specs.Table.{Row, reach, factorRow, addRow, addcRow, mulcRow, mulRow, powRow, invRow, lineOf}
-use Rattle.rules.specs.Run.{line, rowOf, alwaysBent, within}
+use Rattle.rules.specs.Run.{line, rowOf, bentIn, alwaysBent, within}
 use Rattle.rules.specs.Rate.{last, limitsOf, rated, pairs, rateOf}
 use Rattle.rules.specs.Exact.{Point, Jet}
 use Rattle.rules.proofs.Members.{outside, left-in, right-in, in-single, Below, beyond, below-power}
@@ -128,8 +130,12 @@ module _ {n : ℕ} {l m : Line} (h : Sparse n l) (k : Sparse n m) where
 
 -- ---- the limits
 pub always-few : (c : Codelist) → alwaysBent c < 2 ^ c .factors
-unfolding alwaysBent
-always-few c = pow-pos (c .factors)
+unfolding bentIn
+always-few c = few (c .year)
+  where
+    few : (y : Year) → bentIn y (c .factors) < 2 ^ c .factors
+    few Y2016 = pow-pos (c .factors)
+    few Y2014 = omega (arith, pow-pos (c .factors))
 
 abbrev pub SparseLine : ℕ → (Point → Option Jet) → Line → Type 0
 SparseLine n o l = Sparse n l

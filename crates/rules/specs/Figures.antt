@@ -9,6 +9,7 @@ use Rattle.exact.specs.Div.{floorDiv, ceilDiv, floorQuot, ceilQuot}
 use Rattle.exact.specs.Sqrt.{ceilSqrt, floorSqrt, rootBits}
 use Rattle.codelist.specs.declared.Op.{Op}
 use Rattle.codelist.specs.declared.Op.the-variants.{Add, Mul, AddC, MulC, Pow, Inv}
+use Rattle.codelist.specs.declared.Year.the-variants.{Y2016}
 use Rattle.codelist.specs.Codelist.{wellFormedOps, ratable}
 use Rattle.codelist.specs.Load.{codelistOf}
 use Rattle.range.specs.declared.Range.{Range}
@@ -21,7 +22,7 @@ use Rattle.rules.specs.declared.Refusal.the-variants.{NoCodelist, Diviso
 use Rattle.rules.specs.declared.Rating.{Rating}
 use Rattle.rules.specs.Sets.{apart, isSingle, only}
 use Rattle.rules.specs.Table.{factorRow, addRow, addcRow, mulcRow, mulRow, powRow, invRow, eight, lineOf}
-use Rattle.rules.specs.Run.{rowOf, invertsZero, within, runOps, factorLines, alwaysBent, linesOf}
+use Rattle.rules.specs.Run.{rowOf, invertsZero, within, runOps, factorLines, bentIn, linesOf}
 use Rattle.rules.specs.Rate.{last, limitsOf, rated, refused, firstBad, rateRanges, rateOf}
 
 -- a codelist's factors and operations, the ranges of its factors, and what rating gives
@@ -248,10 +249,10 @@ ends (r ∷ rs) = r .low ∷ r .high ∷ ends rs
 
 -- WHAT RATING GIVES for a figure, and that it is so for each
 abbrev pub ratingOf : Figure → Rating
-ratingOf f = rateOf (codelistOf (f .factors) (map (λ o. record { op = o }) (f .operations))) (ends (f .ranges))
+ratingOf f = rateOf (codelistOf Y2016 (f .factors) (map (λ o. record { op = o }) (f .operations))) (ends (f .ranges))
 
 pub all-right : map ratingOf figures ≡ map (λ f. f .gives) figures
-unfolding rateOf rateRanges firstBad limitsOf last linesOf alwaysBent runOps factorLines rowOf invertsZero within lineOf
+unfolding rateOf rateRanges firstBad limitsOf last linesOf bentIn runOps factorLines rowOf invertsZero within lineOf
     factorRow addRow addcRow mulcRow mulRow powRow invRow apart isSingle only
     codelistOf ratable wellFormedOps
     isValid bothValid kept sumOf negOf timesOf endsProduct productOf endsInverse inverseOf hullOf

@@ -12,5 +12,6 @@ pub mod Exact
 pub mod Promises
 pub mod Sharper
 pub mod SameSets
+pub mod Years
 pub mod Sisters
 pub mod Figures

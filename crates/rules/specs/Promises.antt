@@ -103,10 +103,3 @@ pub record Shaped (c : Codelist) (l : Limits) : Type 0 where
 
 abbrev pub ShapedRating : Type 0
 ShapedRating = (c : Codelist) (xs : List ℤ) (l : Limits) → rateOf c xs ≡ rated l → Shaped c l
-
--- The bent set lies within the depends-on set: 01's rows, which start at {i} and the empty set, make both of unions, and B of P.
-pub record Nested (l : Limits) : Type 0 where
-  pub into : (a : ℕ) → T (has (l .nonlinear) a) → T (has (l .support) a)
-
-abbrev pub NestedRating : Type 0
-NestedRating = (c : Codelist) (xs : List ℤ) (l : Limits) → rateOf c xs ≡ rated l → Nested l

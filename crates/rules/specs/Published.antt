@@ -10,6 +10,9 @@ use lib.IntN.{ℤ}
 use lib.ListN.{getD, length, take}
 use Rattle.codelist.specs.declared.Entry.{Entry}
 use Rattle.codelist.specs.declared.Codelist.{Codelist}
+use Rattle.codelist.specs.declared.Op.{Op}
+use Rattle.codelist.specs.declared.Year.{Year}
+use Rattle.codelist.specs.declared.Year.the-variants.{Y2016, Y2014}
 use Rattle.codelist.specs.Codelist.{blank, ratable}
 use Rattle.range.specs.declared.Range.{Range}
 use Rattle.range.specs.Sums.{at}
@@ -23,6 +26,7 @@ use Rattle.rules.specs.Table.{Row, factorRow, extended, eight}
 use Rattle.rules.specs.Run.{line, rowOf, invertsZero, Lines, through, stopped, alwaysBent, operations}
 use Rattle.rules.specs.Rate.{last, rated, refused, pairs, firstBad, rateOf}
 use Rattle.rules.specs.Overflow.{allWithin, stepsOf}
+use Rattle.rules.specs.TableTwo.{rowIn2014}
 
 -- ════ the lines ════
 
@@ -41,15 +45,20 @@ unfoldable pub publishedFactors : ℕ → ℕ → List Range → List Line
 publishedFactors f i [] = []
 publishedFactors f i (r ∷ rs) = publishedLine (factorRow f i r) ∷ publishedFactors f (suc i) rs
 
+-- The row of an operation, in a codelist of n factors: 01's, and in 2014 that of 001's Table 2.
+unfoldable pub publishedRow : Year → ℕ → Op → List Line → Row
+publishedRow Y2016 n o ls = rowOf o ls
+publishedRow Y2014 n o ls = rowIn2014 n o ls
+
 -- Each operation over the lines before it, "codelist lines in order, 11 before 12": 12 where "an end of a range produced by a step below passes
--- the limit".
-unfoldable pub publishedOps : List Entry → List Line → Lines
-publishedOps [] ls = through ls
-publishedOps (o ∷ os) ls =
+-- the limit". The rows are given.
+unfoldable pub publishedOps : (Op → List Line → Row) → List Entry → List Line → Lines
+publishedOps row [] ls = through ls
+publishedOps row (o ∷ os) ls =
     let k = suc (length ls) in
-    let r = rowOf (o .op) ls in
+    let r = row (o .op) ls in
     cond (invertsZero (o .op) ls) (stopped (Divisor k))
-    (cond (allWithin (stepsOf r)) (publishedOps os (ls ++ (publishedLine r ∷ []))) (stopped (Overflow k)))
+    (cond (allWithin (stepsOf r)) (publishedOps row os (ls ++ (publishedLine r ∷ []))) (stopped (Overflow k)))
 
 -- ════ the rating ════
 
@@ -70,7 +79,8 @@ publishedResult n (stopped r) = refused r
 
 -- by the lowest factor with a bad range, 0 if there is none
 unfoldable pub publishedRanges : Codelist → List Range → ℕ → Rating
-publishedRanges c rs zero = publishedResult (c .factors) (publishedOps (operations c) (publishedFactors (alwaysBent c) 0 rs))
+publishedRanges c rs zero =
+    publishedResult (c .factors) (publishedOps (publishedRow (c .year) (c .factors)) (operations c) (publishedFactors (alwaysBent c) 0 rs))
 publishedRanges c rs (suc a) = refused (BadRange (suc a))
 
 -- "Rating: 10, 8, 9 (lowest factor), then codelist lines in order"
@@ -88,7 +98,7 @@ pub record PublishedLines (c : Codelist) (xs : List ℤ) (l : Limits) : Type 0 w
   pub count : length lines ≡ c .factors + c .count
   pub factor : (a : ℕ) → a < c .factors → line lines (suc a) ≡ publishedLine (factorRow (alwaysBent c) a (at (pairs xs) a))
   pub operation : (k : ℕ) → k < c .count
-      → line lines (suc (c .factors + k)) ≡ publishedLine (rowOf (getD (operations c) k blank .op) (take (c .factors + k) lines))
+      → line lines (suc (c .factors + k)) ≡ publishedLine (publishedRow (c .year) (c .factors) (getD (operations c) k blank .op) (take (c .factors + k) lines))
   pub result : l ≡ publishedLimits (c .factors) (last lines)
 
 pub record Published : Type 0 where

@@ -7,13 +7,15 @@ use Rattle.codelist.specs.declared.Op.{Op}
 use Rattle.codelist.specs.declared.Op.the-variants.{Add, Mul, AddC, MulC, Pow, Inv}
 use Rattle.codelist.specs.declared.Entry.{Entry}
 use Rattle.codelist.specs.declared.Codelist.{Codelist}
+use Rattle.codelist.specs.declared.Year.{Year}
+use Rattle.codelist.specs.declared.Year.the-variants.{Y2016, Y2014}
 use Rattle.range.specs.declared.Range.{Range}
 use Rattle.range.specs.Limit.{zeroRange, isValid}
 use Rattle.range.specs.Arithmetic.{holdsZero}
 use Rattle.rules.specs.declared.Line.{Line}
 use Rattle.rules.specs.declared.Refusal.{Refusal}
 use Rattle.rules.specs.declared.Refusal.the-variants.{Divisor, Overflow}
-use Rattle.rules.specs.Sets.{none}
+use Rattle.rules.specs.Sets.{none, allOf}
 use Rattle.rules.specs.Table.{Row, factorRow, addRow, addcRow, mulcRow, mulRow, powRow, invRow, eight, lineOf}
 
 -- ════ a line ════
@@ -72,9 +74,14 @@ unfoldable pub factorLines : ℕ → ℕ → List Range → List Line
 factorLines f i [] = []
 factorLines f i (r ∷ rs) = lineOf (factorRow f i r) ∷ factorLines f (suc i) rs
 
--- the factors that every line of a codelist is bent in, whatever its row
-unfoldable pub alwaysBent : Codelist → ℕ
-alwaysBent c = none
+-- The factors that every line of a codelist is bent in, whatever its row: none of its n factors, or, in 2014, all ("every line's bent set all
+-- factors"; 02, request 9). A factor's line has them, and every row hands them on (`YearSets` of Years), so that the year enters here alone.
+unfoldable pub bentIn : Year → ℕ → ℕ
+bentIn Y2016 n = none
+bentIn Y2014 n = allOf n
+
+abbrev pub alwaysBent : Codelist → ℕ
+alwaysBent c = bentIn (c .year) (c .factors)
 
 abbrev pub operations : Codelist → List Entry
 operations c = take (c .count) (c .ops)
