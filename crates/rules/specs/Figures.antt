@@ -9,7 +9,8 @@ use Rattle.exact.specs.Div.{floorDiv, ceilDiv, floorQuot, ceilQuot}
 use Rattle.exact.specs.Sqrt.{ceilSqrt, floorSqrt, rootBits}
 use Rattle.codelist.specs.declared.Op.{Op}
 use Rattle.codelist.specs.declared.Op.the-variants.{Add, Mul, AddC, MulC, Pow, Inv}
-use Rattle.codelist.specs.declared.Year.the-variants.{Y2016}
+use Rattle.codelist.specs.declared.Year.{Year}
+use Rattle.codelist.specs.declared.Year.the-variants.{Y2016, Y2014}
 use Rattle.codelist.specs.Codelist.{wellFormedOps, ratable}
 use Rattle.codelist.specs.Load.{codelistOf}
 use Rattle.range.specs.declared.Range.{Range}
@@ -242,16 +243,89 @@ figures =
     }
     ∷ []
 
+-- 02, request 9: the same arithmetic "without sets"
+abbrev pub figures2014 : List Figure
+figures2014 =
+    -- Example 1 of 000, "Two factors on 0..10000, both squared and added": bend and full bend 0..40000 (2016: 20000..20000)
+    record {
+      factors = 2;
+      operations = Pow 1 2 ∷ Pow 2 2 ∷ Add 3 4 ∷ [];
+      ranges = 0 to 10000 ∷ 0 to 10000 ∷ [];
+      gives = limits (0 to 20000) (slopes (0 to 20000) (0 to 20000)) 3 3 (0 to 40000) (0 to 40000);
+    }
+    -- "request 4 unused": both ranges 10000..10000, `pow→1→2`, `mul→3→2`: E −20000..40000, 01's figure (2016: −12361..32361)
+    ∷ record {
+      factors = 2;
+      operations = Pow 1 2 ∷ Mul 3 2 ∷ [];
+      ranges = 10000 to 10000 ∷ 10000 to 10000 ∷ [];
+      gives =
+          let e = fromTo (− 20000) (pos 40000) in
+          limits (10000 to 10000) (slopes (20000 to 20000) (10000 to 10000)) 3 3 e e;
+    }
+    -- and with it its refusal: `pow→1→2`, `mulc→2→1000000001`, `mul→3→4` on 5000 and 0 (2016: 12 at line 5)
+    ∷ record {
+      factors = 2;
+      operations = Pow 1 2 ∷ MulC 2 (pos 1000000001) ∷ Mul 3 4 ∷ [];
+      ranges = 5000 to 5000 ∷ 0 to 0 ∷ [];
+      gives =
+          let e = fromTo (− 1000000002) (pos 1000000002) in
+          limits (0 to 0) (slopes (0 to 0) (250000000 to 250000001)) 3 3 e e;
+    }
+    -- "every line's bent set all factors", and "depends-on sets are as now": two factors, `pow→1→2`, ranges 10000..30000 and 0..10000: B {1, 2}, P {1},
+    -- bend and full bend 0..20000
+    ∷ record {
+      factors = 2;
+      operations = Pow 1 2 ∷ [];
+      ranges = 10000 to 30000 ∷ 0 to 10000 ∷ [];
+      gives = limits (10000 to 90000) (slopes (20000 to 60000) zeroRange) 1 3 (0 to 20000) (0 to 20000);
+    }
+    -- that of a line without a bend, too: `mulc→1→20000` on 10000..10000, E 0..0
+    ∷ record {
+      factors = 1;
+      operations = MulC 1 (pos 20000) ∷ [];
+      ranges = 10000 to 10000 ∷ [];
+      gives = limits (20000 to 20000) (slopes (20000 to 20000) zeroRange) 1 1 zeroRange zeroRange;
+    }
+    -- for one factor (23) is the second power, as now: `pow→1→2` on 10000..30000
+    ∷ record {
+      factors = 1;
+      operations = Pow 1 2 ∷ [];
+      ranges = 10000 to 30000 ∷ [];
+      gives = limits (10000 to 90000) (slopes (20000 to 60000) zeroRange) 1 1 (20000 to 20000) (20000 to 20000);
+    }
+    -- a product of two factors: (24), −10000..10000
+    ∷ record {
+      factors = 2;
+      operations = Mul 1 2 ∷ [];
+      ranges = 10000 to 20000 ∷ 30000 to 40000 ∷ [];
+      gives =
+          let e = fromTo (− 10000) (pos 10000) in
+          limits (30000 to 80000) (slopes (30000 to 40000) (10000 to 20000)) 3 3 e e;
+    }
+    -- an inverse beside a second factor, `inv→1` on 20000..40000: (23) is 0..10000, E 0..2500 (2016: 312..2500)
+    ∷ record {
+      factors = 2;
+      operations = Inv 1 ∷ [];
+      ranges = 20000 to 40000 ∷ 0 to 10000 ∷ [];
+      gives = limits (2500 to 5000) (slopes (fromTo (− 2500) (− 625)) zeroRange) 1 3 (0 to 2500) (0 to 2500);
+    }
+    -- 11 and 12 as now: `inv→1` on 0..10000, and on 1..1
+    ∷ record { factors = 1; operations = Inv 1 ∷ []; ranges = 0 to 10000 ∷ []; gives = refused (Divisor 2) }
+    ∷ record { factors = 1; operations = Inv 1 ∷ []; ranges = 1 to 1 ∷ []; gives = refused (Overflow 2) }
+    -- and 02's request 5
+    ∷ record { factors = 1; operations = MulC 1 (pos 0) ∷ []; ranges = 1 to 1 ∷ []; gives = refused NoCodelist }
+    ∷ []
+
 -- two numbers a range
 abbrev pub ends : List Range → List ℤ
 ends [] = []
 ends (r ∷ rs) = r .low ∷ r .high ∷ ends rs
 
--- WHAT RATING GIVES for a figure, and that it is so for each
-abbrev pub ratingOf : Figure → Rating
-ratingOf f = rateOf (codelistOf Y2016 (f .factors) (map (λ o. record { op = o }) (f .operations))) (ends (f .ranges))
+-- WHAT RATING GIVES for a figure, by the rules of a year, and that it is so for each
+abbrev pub ratingOf : Year → Figure → Rating
+ratingOf y f = rateOf (codelistOf y (f .factors) (map (λ o. record { op = o }) (f .operations))) (ends (f .ranges))
 
-pub all-right : map ratingOf figures ≡ map (λ f. f .gives) figures
+pub all-right : (map (ratingOf Y2016) figures ≡ map (λ f. f .gives) figures) × (map (ratingOf Y2014) figures2014 ≡ map (λ f. f .gives) figures2014)
 unfolding rateOf rateRanges firstBad limitsOf last linesOf bentIn runOps factorLines rowOf invertsZero within lineOf
     factorRow addRow addcRow mulcRow mulRow powRow invRow apart isSingle only
     codelistOf ratable wellFormedOps
@@ -260,4 +334,4 @@ unfolding rateOf rateRanges firstBad limitsOf last linesOf bentIn runOps factorL
     has sumOver sumBelow validBelow endsProducts productsOf largestSquare squareSum squaresOf rootSum rootOf
     magnitudeOf starRoot endsStar isHalf starOf
     floorDiv ceilDiv floorQuot ceilQuot ceilSqrt floorSqrt rootBits ones onesIn trailingZeros
-all-right = refl
+all-right = (refl, refl)
