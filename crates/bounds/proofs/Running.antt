@@ -174,10 +174,10 @@ module _ (c : Codelist) (rs : List Range) where
     pub todo : runOps (drop (k - c .factors) (operations c)) (linesUpTo t s k) ≡ linesOf c rs
     pub untested : wellFormedOps (c .factors + (k - c .factors)) (drop (k - c .factors) (operations c)) ≡ ratable c
 
-  pub ran-start : (t : List ℤ) (s : List ℕ) (g : List Range) (k : ℕ) → Counted c → k ≡ c .factors → Started (factorLines (alwaysBent c) 0 rs) k t s
-      → g ≡ gradientAt t (k - 1) → Ran t s g k
+  pub ran-start : (t : List ℤ) (s : List ℕ) (g : List Range) (k : ℕ) {b : ℕ} → Counted c → k ≡ c .factors → b ≡ alwaysBent c
+      → Started (factorLines b 0 rs) k t s → g ≡ gradientAt t (k - 1) → Ran t s g k
   unfolding linesOf
-  ran-start t s g k n e i l =
+  ran-start t s g k n e bent i l =
       let none : k - c .factors ≡ 0 = omega arith in
       let all : c .factors + (k - c .factors) ≡ c .factors = omega arith in
       record {
@@ -185,7 +185,7 @@ module _ (c : Codelist) (rs : List Range) where
         upto = omega arith;
         ready = i .ready;
         slopes = l;
-        todo = ap₂ (λ (j : ℕ) (l : List Line). runOps (drop j (operations c)) l) none (i .lines);
+        todo = ap₂ (λ (j : ℕ) (l : List Line). runOps (drop j (operations c)) l) none (i .lines ∙ ap (λ (b : ℕ). factorLines b 0 rs) bent);
         untested = ap₂ (λ (j m : ℕ). wellFormedOps m (drop j (operations c))) none all ∙ W.by-operations c (n .fits) (n .array);
       }
 

@@ -8,7 +8,7 @@ ghost use Rattle.range.specs.Limit.{zeroRange};
 ghost use Rattle.range.specs.Arithmetic.{holdsZero};
 ghost use Rattle.codelist.specs.Codelist.{WellFormedOp, ratable};
 ghost use Rattle.rules.specs.declared.Refusal.the-variants.{NoCodelist};
-ghost use Rattle.rules.specs.Run.{eachValid, rowOf, invertsZero, factorLines};
+ghost use Rattle.rules.specs.Run.{eachValid, rowOf, invertsZero, bentIn, factorLines};
 ghost use Rattle.rules.specs.Rate.{limitsOf, rated, refused, pairs, rateOf};
 ghost use Rattle.bounds.specs.Terms.{Fine};
 ghost use Rattle.bounds.specs.Table.{gradientAt, lineAt, linesUpTo, Ready, Worked, Started};
@@ -18,6 +18,7 @@ use super::spectrum;
 use super::table;
 use codelist::Codelist;
 use codelist::Op;
+use codelist::Year;
 use range::Range;
 use rules::Limits;
 use rules::Outcome;
@@ -45,7 +46,7 @@ fn result(t: &[i32; 1280], s: &[u8; 128], n: u8, k: usize, gradient: [Range; 8])
     let value = table::value(t, k);
     let spectrum = table::spectrum(t, k);
     let nonlinear = table::nonlinear(s, k);
-    let all = ((1u16 << n) - 1) as u8;
+    let all = spectrum::all_of(n);
     let full = spectrum::extended(spectrum, nonlinear, all);
     let limits = Limits {
         value: value,
@@ -82,6 +83,17 @@ fn index(i: u8) -> usize
     ensures { λ r. ⌜ (r ≡ i - 1) × (r < 64) ⌝ }
 {
     i as usize - 1
+}
+
+// The factors that every line is bent in: none, or, in 2014, all (02, request 9). The one place where the year is looked at.
+fn bent_in(year: Year, n: u8) -> u8
+    requires { ⌜ n ≤ 8 ⌝ }
+    ensures { λ r. ⌜ r ≡ bentIn year n ⌝ }
+{
+    match year {
+        Year::Y2016 => 0,
+        Year::Y2014 => spectrum::all_of(n),
+    }
 }
 
 // The lines of the n factors, with the bent set b. What is given back is the slopes of the last.
@@ -169,7 +181,8 @@ pub(crate) fn answer(c: Codelist, xs: &[i64]) -> Rating
     }
     let mut t = [0i32; 1280];
     let mut s = [0u8; 128];
-    let mut last = start(&mut t, &mut s, xs, 0, n);
+    let year = c.year;
+    let mut last = start(&mut t, &mut s, xs, bent_in(year, c.factors), n);
     let mut k = n;
     while k < n + count {
         let entry = c.ops[k - n];

@@ -1,14 +1,22 @@
 // Sets of factors as masks, and spectra over them: bounds of the eigenvalues of a Hessian that is zero outside a set.
 ghost use mathlib.Core.Path.{_≡_};
-ghost use Prim.Native.Nat.{_+_, _*_, _<_};
+ghost use Prim.Native.Nat.{_+_, _*_, _≤_, _<_};
 ghost use Rattle.range.specs.Sums.{at};
-ghost use Rattle.rules.specs.Sets.{apart, isSingle, only};
+ghost use Rattle.rules.specs.Sets.{allOf, apart, isSingle, only};
 ghost use Rattle.rules.specs.Table.{areSingles};
 ghost use Rattle.bounds.specs.Terms.{Told, extendedOf, sumSpectrumOf, squareSpectrumOf, crossSpectrumOf};
 ghost use Rattle.bounds.specs.Table.{gradientAt};
 use super::table;
 use super::valid;
 use range::Range;
+
+// The first n factors.
+pub(crate) fn all_of(n: u8) -> u8
+    requires { ⌜ n ≤ 8 ⌝ }
+    ensures { λ r. ⌜ r ≡ allOf n ⌝ }
+{
+    ((1u16 << n) - 1) as u8
+}
 
 // Both have members, and none in common.
 fn are_apart(s: u8, t: u8) -> bool

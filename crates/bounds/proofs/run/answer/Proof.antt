@@ -10,7 +10,7 @@ use Rattle.codelist.proofs.WellFormed.{length-mapped}
 use Rattle.codelist.proofs.Ratable.{not-counted}
 use Rattle.rules.specs.declared.Refusal.{Refusal}
 use Rattle.rules.specs.declared.Refusal.the-variants.{NoCodelist}
-use Rattle.rules.specs.Run.{alwaysBent, linesOf}
+use Rattle.rules.specs.Run.{linesOf}
 use Rattle.rules.specs.Rate.{refused, pairs, finished, rateOf}
 use Rattle.bounds.proofs.Ranges.{pairs-count, bad-few, none-bad}
 use Rattle.bounds.proofs.Running as R
@@ -44,7 +44,7 @@ module _ (l : tie.Else3 Inv-loop μ-loop) where
 
 -- the loop: an operation is left, or none
 abbrev good : tie.At-loop Inv-loop μ-loop → tie.Else3 Inv-loop μ-loop
-good l = l .before .before .before .before
+good l = l .before .before .before .before .before
 
 module _ (t : tie.In-loop Inv-loop μ-loop) where
   abbrev at : tie.Start Inv-loop μ-loop
@@ -71,8 +71,8 @@ returns-2 : tie.Need-returns-2 Inv-loop μ-loop
 returns-2 c = c .refuse-ratable .ensures ∙ or-no-codelist _ _ _ (λ w. bad-count _ _ w (c .before .if2 .taken))
 
 -- the lowest bad range is that of one of the factors
-cast-t29 : tie.Need-cast-t29 Inv-loop μ-loop
-cast-t29 c =
+cast-t30 : tie.Need-cast-t30 Inv-loop μ-loop
+cast-t30 c =
     let bad = c .before in
     let counts = bad .before .before in
     let xs = counts .before .args .xs .now in
@@ -84,16 +84,20 @@ returns-3 c =
     c .refuse-ratable2 .ensures
     ∙ or-no-codelist _ _ _ (λ w. bad-range _ _ w (bad .before .if2 .left) _ (bad .first-bad .ensures) (c .before .if3 .taken))
 
+bent-in-requires : tie.Need-bent-in-requires Inv-loop μ-loop
+bent-in-requires c κs = R.counts (counted (c .before .before .before .before .before)) .factors .1
+
 start-requires : tie.Need-start-requires Inv-loop μ-loop
 start-requires c κs =
-    let good = c .before .before in
+    let good = c .before .before .before in
     let bad = good .before in
     let xs = start good .args .xs .now in
     (R.ready-none 1280 _, (pairs-count xs _ (bad .before .if2 .left), (R.counts (counted (bad .before .before)) .factors, none-bad (pairs xs) 0 (sym (bad .first-bad .ensures) ∙ good .if3 .left))))
 
 loop-holds : tie.Need-loop-holds Inv-loop μ-loop
-unfolding alwaysBent
-loop-holds c = R.ran-start _ _ _ _ _ _ (counted (c .before .before .before .before .before .before)) refl (c .start .ensures .0) (c .start .ensures .1)
+loop-holds c =
+    let good = c .before .before .before .before in
+    R.ran-start _ _ _ _ _ _ (counted (good .before .before .before)) refl (c .before .bent-in .ensures) (c .start .ensures .0) (c .start .ensures .1)
 
 element-copy-out-entry : tie.Need-element-copy-out-entry Inv-loop μ-loop
 element-copy-out-entry c = omega (arith, R.inside (going c))
@@ -110,11 +114,11 @@ inverts-zero-requires c κs =
     let p = going (w .before .before) in
     (R.well p _ _ (w .is-op-well-formed .ensures) (not-false _ (c .before .if4 .left)), R.inside p)
 
-cast-t45 : tie.Need-cast-t45 Inv-loop μ-loop
-cast-t45 c = omega (arith, R.inside (going (turn (c .before))))
+cast-t47 : tie.Need-cast-t47 Inv-loop μ-loop
+cast-t47 c = omega (arith, R.inside (going (turn (c .before))))
 
-add-t46 : tie.Need-add-t46 Inv-loop μ-loop
-add-t46 c = omega (arith, R.inside (going (turn (c .before))))
+add-t48 : tie.Need-add-t48 Inv-loop μ-loop
+add-t48 c = omega (arith, R.inside (going (turn (c .before))))
 
 returns-5 : tie.Need-returns-5 Inv-loop μ-loop
 returns-5 c =
@@ -129,11 +133,11 @@ work-requires c κs =
     let p = going (w .before .before) in
     (R.well p _ _ (w .is-op-well-formed .ensures) (not-false _ (test .if4 .left)), (p .ran .ready, R.inside p))
 
-cast-t51 : tie.Need-cast-t51 Inv-loop μ-loop
-cast-t51 c = omega (arith, R.inside (going (turn (c .before .before .before .before .before .before))))
+cast-t53 : tie.Need-cast-t53 Inv-loop μ-loop
+cast-t53 c = omega (arith, R.inside (going (turn (c .before .before .before .before .before .before))))
 
-add-t52 : tie.Need-add-t52 Inv-loop μ-loop
-add-t52 c = omega (arith, R.inside (going (turn (c .before .before .before .before .before .before))))
+add-t54 : tie.Need-add-t54 Inv-loop μ-loop
+add-t54 c = omega (arith, R.inside (going (turn (c .before .before .before .before .before .before))))
 
 returns-6 : tie.Need-returns-6 Inv-loop μ-loop
 returns-6 c =
@@ -142,6 +146,9 @@ returns-6 c =
     let v = test .before in
     c .refuse-ratable4 .ensures
     ∙ stops (good (turn v .before)) _ (R.ran-overflow (going (turn v)) _ _ (v .inverts-zero .ensures) (test .if5 .left) _ _ _ (w .work .ensures) (not-true _ (c .before .if6 .taken)))
+
+add-k : tie.Need-add-k Inv-loop μ-loop
+add-k c = omega (arith, R.inside (going (turn (c .before .before .before .before .before .before .before))))
 
 loop-less : tie.Need-loop-less Inv-loop μ-loop
 loop-less c = omega arith
@@ -184,9 +191,10 @@ answer-spec =
     (λ c κs. search needs)
     returns-2
     (λ c κs. search needs)
-    cast-t29
+    cast-t30
     (λ c κs. search needs)
     returns-3
+    bent-in-requires
     start-requires
     loop-holds
     (λ c. search needs)
@@ -197,16 +205,16 @@ answer-spec =
     (λ c κs. search needs)
     returns-4
     inverts-zero-requires
-    cast-t45
-    add-t46
+    cast-t47
+    add-t48
     (λ c κs. search needs)
     returns-5
     work-requires
-    cast-t51
-    add-t52
+    cast-t53
+    add-t54
     (λ c κs. search needs)
     returns-6
-    (λ c. search needs)
+    add-k
     loop-less
     loop-again
     sub-result
