@@ -14,7 +14,7 @@ use Rattle.codelist.specs.declared.Codelist.{Codelist}
 use Rattle.codelist.specs.Codelist.{WellFormed, ratable}
 use Rattle.codelist.specs.Load as Load
 use Rattle.codelist.specs.Refused.{RefusedFor}
-use Rattle.codelist.specs.Write.{textOf}
+use Rattle.codelist.specs.Write.{IsText}
 use Rattle.codelist.proofs.Accepted.{accepted-exactly, refused-empty}
 use Rattle.codelist.proofs.Ratable.{well-formed-ratable}
 use Rattle.codelist.proofs.Refused.{refused-exactly}
@@ -38,7 +38,7 @@ use Rattle.engine.specs.declared.Refusal.{Refusal}
 use Rattle.engine.specs.declared.Outcome.{Outcome}
 use Rattle.engine.specs.declared.Outcome.the-variants.{Accepted, Refused}
 use Rattle.engine.specs.Engine.{numberOf, placeOf, emptyEngine, loaded, loadedOf, outcomeOf, asRating, ratedOf}
-use Rattle.engine.specs.Refusals.{RefusedWith, LoadTable, bytes, form, factors, lines, no-operation, reference, exponent, constant, multiplier}
+use Rattle.engine.specs.Refusals.{RefusedWith, LoadTable, bytes, form, factors, year, lines, no-operation, reference, exponent, constant, multiplier}
 use Rattle.engine.specs.Refusals.{RateTable, count, range, no-codelist, divisor, overflow}
 use Rattle.engine.specs.Demands.{Demands}
 
@@ -66,12 +66,13 @@ module _ (e : Engine) where
   number codelist.the-variants.TooLong = is-in 0 _ (lit≤ tt)
   number (codelist.the-variants.Malformed p) = is-in 1 _ (lit≤ tt)
   number codelist.the-variants.FactorCount = is-in 2 _ (lit≤ tt)
-  number (codelist.the-variants.TooManyLines p) = is-in 3 _ (lit≤ tt)
-  number codelist.the-variants.NoOperation = is-in 3 _ (lit≤ tt)
-  number (codelist.the-variants.Reference p) = is-in 4 _ (lit≤ tt)
-  number (codelist.the-variants.Exponent p) = is-in 5 _ (lit≤ tt)
-  number (codelist.the-variants.Constant p) = is-in 6 _ (lit≤ tt)
-  number (codelist.the-variants.ZeroMultiplier p) = is-in 7 _ (lit≤ tt)
+  number codelist.the-variants.UnknownYear = is-in 3 _ (lit≤ tt)
+  number (codelist.the-variants.TooManyLines p) = is-in 4 _ (lit≤ tt)
+  number codelist.the-variants.NoOperation = is-in 4 _ (lit≤ tt)
+  number (codelist.the-variants.Reference p) = is-in 5 _ (lit≤ tt)
+  number (codelist.the-variants.Exponent p) = is-in 6 _ (lit≤ tt)
+  number (codelist.the-variants.Constant p) = is-in 7 _ (lit≤ tt)
+  number (codelist.the-variants.ZeroMultiplier p) = is-in 8 _ (lit≤ tt)
 
   -- what the outcome says of the codelist's own
   was-accepted : (o : loading.Outcome) (c : Codelist) → loaded e o c .outcome ≡ Accepted → o ≡ loading.the-variants.Accepted
@@ -98,10 +99,10 @@ module _ (e : Engine) where
     unfolding loadedOf
     left h = sym (ap (λ (o : loading.Outcome). loaded e o (Load.loadOf s .codelist) .engine .codelist) (was-accepted (Load.loadOf s .outcome) (Load.loadOf s .codelist) h))
 
-    written : loadedOf e s .outcome ≡ Accepted → WellFormed (loadedOf e s .engine .codelist) × (s ≡ textOf (loadedOf e s .engine .codelist))
+    written : loadedOf e s .outcome ≡ Accepted → WellFormed (loadedOf e s .engine .codelist) × IsText (loadedOf e s .engine .codelist) s
     written h = rw (← (left h)) (accepted-exactly .where-written s (Load.loadOf s .codelist) .0 (whole h))
 
-    back : (c : Codelist) → WellFormed c × (s ≡ textOf c) → loadedOf e s .outcome ≡ Accepted
+    back : (c : Codelist) → WellFormed c × IsText c s → loadedOf e s .outcome ≡ Accepted
     unfolding loadedOf
     back c w = let h = accepted-exactly .where-written s c .1 w in ap (λ (l : Rattle.codelist.specs.declared.Loaded.Loaded). loaded e (l .outcome) (l .codelist) .outcome) h
 
@@ -182,6 +183,7 @@ load-row : (s : List ℕ) (r : codelist.Refusal) → RefusedFor s r → LoadTabl
 load-row s codelist.the-variants.TooLong h = bytes h
 load-row s (codelist.the-variants.Malformed p) h = form h
 load-row s codelist.the-variants.FactorCount h = factors h
+load-row s codelist.the-variants.UnknownYear h = year h
 load-row s (codelist.the-variants.TooManyLines p) h = lines h
 load-row s codelist.the-variants.NoOperation h = no-operation h
 load-row s (codelist.the-variants.Reference p) h = reference h
@@ -204,6 +206,7 @@ module _ (e : Engine) (s : List ℕ) where
   from-load-table (bytes h) = load-refused codelist.the-variants.TooLong h
   from-load-table (form {line} h) = load-refused (codelist.the-variants.Malformed line) h
   from-load-table (factors h) = load-refused codelist.the-variants.FactorCount h
+  from-load-table (year h) = load-refused codelist.the-variants.UnknownYear h
   from-load-table (lines {line} h) = load-refused (codelist.the-variants.TooManyLines line) h
   from-load-table (no-operation h) = load-refused codelist.the-variants.NoOperation h
   from-load-table (reference {line} h) = load-refused (codelist.the-variants.Reference line) h

@@ -11,7 +11,7 @@ use Rattle.codelist.specs.declared.Refusal as codelist
 use Rattle.codelist.specs.Codelist.{WellFormed}
 use Rattle.codelist.specs.Load.{loadNumbers}
 use Rattle.codelist.specs.Refused.{RefusedFor}
-use Rattle.codelist.specs.Write.{textOf}
+use Rattle.codelist.specs.Write.{IsText}
 use Rattle.rules.specs.declared.Limits.{Limits}
 use Rattle.rules.specs.declared.Refusal.the-variants.{NoCodelist}
 use Rattle.rules.specs.Rate.{rateNumbers, noLimits}
@@ -40,10 +40,10 @@ pub record Demands : Type 0 where
   pub rate-zero : (e : Engine) (xs : List ℤ) (r : Refusal) → ratedOf e xs .outcome ≡ Refused r → ratedOf e xs .limits ≡ noLimits
   -- 2. "A sheet is accepted only if 01's rules write it, and always then."
   pub accepted-written : (e : Engine) (s : List ℕ)
-      → (loadedOf e s .outcome ≡ Accepted) ↔ ((c : Codelist) × (WellFormed c × (s ≡ textOf c)))
+      → (loadedOf e s .outcome ≡ Accepted) ↔ ((c : Codelist) × (WellFormed c × IsText c s))
   -- what is loaded is what the text writes
   pub loaded-written : (e : Engine) (s : List ℕ) → loadedOf e s .outcome ≡ Accepted
-      → WellFormed (loadedOf e s .engine .codelist) × (s ≡ textOf (loadedOf e s .engine .codelist))
+      → WellFormed (loadedOf e s .engine .codelist) × IsText (loadedOf e s .engine .codelist) s
   -- "refusal": each number and place of loading is given exactly where 01's table has it of the bytes, and each of rating exactly where it has it
   -- of the codelist and the numbers
   pub load-table : (e : Engine) (s : List ℕ) (k p : ℕ) → RefusedWith (loadedOf e s .outcome) k p ↔ LoadTable s k p

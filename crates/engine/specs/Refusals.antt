@@ -5,7 +5,7 @@ use mathlib.Core.List.{List}
 use Prim.Native.Nat.{ℕ}
 use lib.IntN.{ℤ}
 use Rattle.codelist.specs.declared.Codelist.{Codelist}
-use Rattle.codelist.specs.declared.Refusal.the-variants.{TooLong, Malformed, FactorCount, TooManyLines, NoOperation, Reference}
+use Rattle.codelist.specs.declared.Refusal.the-variants.{TooLong, Malformed, FactorCount, UnknownYear, TooManyLines, NoOperation, Reference}
 use Rattle.codelist.specs.declared.Refusal.the-variants.{Exponent, Constant, ZeroMultiplier}
 use Rattle.codelist.specs.Refused as Load
 use Rattle.rules.specs.declared.Refusal.the-variants.{NoCodelist, RangeCount, BadRange, Divisor, Overflow}
@@ -30,6 +30,8 @@ pub data LoadTable (s : List ℕ) : ℕ → ℕ → Type 0 where
   form : {line : ℕ} → Load.RefusedFor s (Malformed line) → LoadTable s 2 line
   -- 3 | n not 1 to 8 | 1
   factors : Load.RefusedFor s FactorCount → LoadTable s 3 1
+  -- 17 | a year that is another numeral than 2016 and 2014 | 1 (02, request 9)
+  year : Load.RefusedFor s UnknownYear → LoadTable s 17 1
   -- 4 | a codelist line beyond the 64th, or no operation line | its text line; 1 if none
   lines : {line : ℕ} → Load.RefusedFor s (TooManyLines line) → LoadTable s 4 line
   no-operation : Load.RefusedFor s NoOperation → LoadTable s 4 1

@@ -12,9 +12,9 @@ pub struct Engine {
     pub codelist: Codelist,
 }
 
-// 01's refusals 1 to 12, and 15 of 02.
+// 01's refusals 1 to 12, and 15 and 17 of 02.
 pub enum Refusal {
-    // 1 to 7 and 15
+    // 1 to 7, 15 and 17
     Load(codelist::Refusal),
     // 8 to 12
     Rate(rules::Refusal),

@@ -4,6 +4,7 @@
 use codelist::Codelist;
 use codelist::Entry;
 use codelist::Op;
+use codelist::Year;
 use engine::Engine;
 use engine::Outcome;
 use libc::STDOUT_FILENO;
@@ -206,6 +207,7 @@ fn inverse(e: Engine) {
 fn written_down(c: i64) {
     let e = Engine {
         codelist: Codelist {
+            year: Year::Y2016,
             factors: 1,
             count: 1,
             ops: [Entry { op: Op::MulC(1, c) }; 64],
