@@ -17,7 +17,7 @@ use Rattle.liveness.proofs.References.{earlier, renumbered-refers, renu
 use Rattle.liveness.proofs.Positions.{position-rises, position-above, position-same, Found, found, picked-at}
 use Rattle.liveness.proofs.Operations.{Each, tidy-none, tidy-kept}
 use Rattle.liveness.proofs.Used.{kept-factor, kept-used, used-kept, counted, fine, most, computed}
-use Rattle.liveness.proofs.Tidied.{tidied-is, tidied-operations, tidied-factors, factor-number, last-number, tidied-fine}
+use Rattle.liveness.proofs.Tidied.{tidied-is, tidied-operations, tidied-year, tidied-factors, factor-number, last-number, tidied-fine}
 
 -- ---- the operation of a kept line stands, renumbered, at its new number
 tidy-at : (k : ℕ → Bool) (e : ℕ) (os : List Entry) (i : ℕ) → e < i → i ≤ e + length os → k i ≡ true
@@ -84,4 +84,4 @@ module _ (c : Codelist) (w : WellFormed c) where
       let d = tidied c in
       let v = tidied-fine c w in
       let same = tidy-same (kept d) (d .factors) (operations d) (fine d v) (λ j p q. all-kept j p (omega (arith, counted d v))) in
-      tidied-is d ∙ ap₂ codelistOf (tidied-factors c) (same ∙ tidied-operations c) ∙ sym (tidied-is c)
+      tidied-is d ∙ (λ i. codelistOf (tidied-year c i) (tidied-factors c i) ((same ∙ tidied-operations c) i)) ∙ sym (tidied-is c)

@@ -3,6 +3,7 @@ use Prim.Native.Nat.{ℕ, _≤_, _<_}
 use mathlib.Core.Bool.{Bool, true, false, cond}
 use mathlib.Core.List.{List, _++_}
 use mathlib.Core.Logic.{_↔_}
+use mathlib.Core.Option.{some}
 use mathlib.Core.Path.{_≡_, refl, sym, ap, subst, _∙_}
 use native.Mathlib.Omega.{arith}
 use lib.Dec.{leb}
@@ -15,8 +16,11 @@ use Rattle.codelist.specs.declared.Outcome as loading
 use Rattle.codelist.specs.declared.Refusal as load
 use Rattle.codelist.specs.Codelist.{WellFormed}
 use Rattle.codelist.specs.Load.{loadOf, accepted}
-use Rattle.codelist.specs.Write.{textOf}
+use Rattle.codelist.specs.declared.Year.the-variants.{Y2016}
+use Rattle.codelist.specs.Text.{YearField, absent, yearOf}
+use Rattle.codelist.specs.Write.{year2016, textWith, textOf}
 use Rattle.codelist.proofs.Accepted.{accepted-exactly}
+use Rattle.codelist.proofs.Years.{own-text}
 use Rattle.liveness.specs.declared.Outcome.{Outcome}
 use Rattle.liveness.specs.declared.Outcome.the-variants.{Written, Refused}
 use Rattle.liveness.specs.declared.Refusal.the-variants.{Load, Short}
@@ -27,7 +31,7 @@ use Rattle.liveness.proofs.Tidied.{tidied-fine}
 use Rattle.liveness.proofs.Again.{idempotent}
 
 pub loads : (c : Codelist) → WellFormed c → loadOf (textOf (tidied c)) ≡ accepted (tidied c)
-loads c w = accepted-exactly .where-written (textOf (tidied c)) (tidied c) .1 (tidied-fine c w, refl)
+loads c w = accepted-exactly .where-written (textOf (tidied c)) (tidied c) .1 (tidied-fine c w, own-text (tidied c))
 
 -- ---- what a call comes to
 pub data Answer (s : List ℕ) (k : ℕ) : Outcome → Type 0 where
@@ -101,6 +105,19 @@ module _ (s b : List ℕ) (n : ℕ) (h : tidyOf s (length b) ≡ Written n) wher
       ∙ ap (λ (v : List ℕ). Written (length v)) same ∙ ap Written (was .long) in
       let left = leaves u (tidied c) l d n out ∙ ap (λ (v : List ℕ). v ++ drop n d) same in
       subst (λ (t : List ℕ). (tidyOf t (length d) ≡ Written n) × (bufferOf t d ≡ t ++ drop n d)) (sym was-text) (out, left)
+
+-- ---- a sheet that names 2016, and the one that names no year: they load the same
+same-call : (s t : List ℕ) → loadOf s ≡ loadOf t → (b : List ℕ) → (tidyOf s (length b) ≡ tidyOf t (length b)) × (bufferOf s b ≡ bufferOf t b)
+unfolding tidyOf bufferOf
+same-call s t e b = (rw e, rw e)
+
+pub year-unnamed : (c : Codelist) → WellFormed c → c .year ≡ Y2016 → (b : List ℕ)
+    → (tidyOf (textWith year2016 c) (length b) ≡ tidyOf (textWith absent c) (length b)) × (bufferOf (textWith year2016 c) b ≡ bufferOf (textWith absent c) b)
+unfolding yearOf
+year-unnamed c w h b = same-call (textWith year2016 c) (textWith absent c) (load-is year2016 (ap some (sym h)) ∙ sym (load-is absent (ap some (sym h)))) b
+  where
+    load-is : (f : YearField) → yearOf f ≡ some (c .year) → loadOf (textWith f c) ≡ accepted c
+    load-is f e = accepted-exactly .where-written (textWith f c) c .1 (w, record { field = f; names = e; text = refl })
 
 -- ---- by what loading gave, as the code has it
 module _ (s : List ℕ) (x : Loaded) (e : x ≡ loadOf s) where

@@ -1,9 +1,9 @@
--- The tidied text is no longer than the sheet's: a line is dropped, or written with references that are no greater. No sheet has more than 1,261
+-- The tidied text is no longer than the sheet's: a line is dropped, or written with references that are no greater. No sheet has more than 1,266
 -- bytes. Assumes nothing.
 use Prim.Native.Nat.{ℕ, zero, suc, _/_, _≤_, _<_}
 use mathlib.Core.Bool.{Bool, true, false}
 use mathlib.Core.List.{List, [], _∷_, _++_}
-use mathlib.Core.Path.{_≡_, refl, ap, ap₂}
+use mathlib.Core.Path.{_≡_, refl, ap}
 use native.Mathlib.Decide.{decLt}
 use native.Mathlib.Omega.{arith}
 use lib.ListN.{length, length-append}
@@ -13,15 +13,15 @@ use Rattle.codelist.specs.declared.Op.{Op}
 use Rattle.codelist.specs.declared.Op.the-variants.{Add, Mul, AddC, MulC, Pow, Inv}
 use Rattle.codelist.specs.Load.{loadOf, accepted}
 use Rattle.codelist.specs.Text.{decimal, numeralText, firstText, lineText}
-use Rattle.codelist.specs.Write.{plain, textLineOf, opsText, textOf}
+use Rattle.codelist.specs.Write.{plain, textLineOf, opsText, textWith, fieldOf, textOf}
 use Rattle.codelist.proofs.Accepted.{accepted-exactly}
-use Rattle.codelist.proofs.Lengths.{one-digit, more-digits, text-length}
+use Rattle.codelist.proofs.Lengths.{one-digit, more-digits, shortest, text-length}
 use Rattle.rules.specs.Run.{operations}
 use Rattle.liveness.specs.Tidied.{kept, position, renumbered, tidyOps, tidiedOps, tidied}
 use Rattle.liveness.proofs.References.{Named, to-named}
 use Rattle.liveness.proofs.Positions.{position-least}
 use Rattle.liveness.proofs.Operations.{tidy-none, tidy-kept, tidy-dropped}
-use Rattle.liveness.proofs.Tidied.{tidied-operations, tidied-factors}
+use Rattle.liveness.proofs.Tidied.{tidied-operations, tidied-year, tidied-factors}
 
 decimal-rises : (k m n : ℕ) → m ≤ n → length (decimal k m) ≤ length (decimal k n)
 unfolding decimal
@@ -60,14 +60,14 @@ ops-shorter k e (o ∷ os) = go (k (suc e)) refl (ops-shorter k (suc e) os)
         rw (tidy-kept k e o os g) (simp length-append (omega arith))
     go false g h = rw (tidy-dropped k e o os g) (simp length-append (omega arith))
 
-pub text-is : (c : Codelist) → textOf (tidied c) ≡ firstText (plain (c .factors)) ++ opsText (tidiedOps c)
-unfolding textOf
-text-is c = ap₂ (λ (n : ℕ) (os : List Entry). firstText (plain n) ++ opsText os) (tidied-factors c) (tidied-operations c)
+pub text-is : (c : Codelist) → textOf (tidied c) ≡ firstText (plain (c .factors)) (fieldOf (c .year)) ++ opsText (tidiedOps c)
+unfolding textOf textWith
+text-is c = λ i. firstText (plain (tidied-factors c i)) (fieldOf (tidied-year c i)) ++ opsText (tidied-operations c i)
 
 text-shorter : (c : Codelist) → length (textOf (tidied c)) ≤ length (textOf c)
-unfolding textOf
+unfolding textOf textWith
 text-shorter c =
-    let p = firstText (plain (c .factors)) in
+    let p = firstText (plain (c .factors)) (fieldOf (c .year)) in
     omega (
       arith,
       ap length (text-is c),
@@ -78,8 +78,8 @@ text-shorter c =
 
 -- NO LONGER
 pub no-longer : (s : List ℕ) (c : Codelist) → loadOf s ≡ accepted c → length (textOf (tidied c)) ≤ length s
-no-longer s c h = omega (arith, text-shorter c, ap length (accepted-exactly .where-written s c .0 h .1))
+no-longer s c h = omega (arith, text-shorter c, shortest c s (accepted-exactly .where-written s c .0 h .1))
 
--- AT MOST 1,261 bytes
-pub at-most : (s : List ℕ) (c : Codelist) → loadOf s ≡ accepted c → length s ≤ 1261
-at-most s c h = let w = accepted-exactly .where-written s c .0 h in omega (arith, text-length c (w .0), ap length (w .1))
+-- AT MOST 1,266 bytes
+pub at-most : (s : List ℕ) (c : Codelist) → loadOf s ≡ accepted c → length s ≤ 1266
+at-most s c h = let w = accepted-exactly .where-written s c .0 h in text-length c (w .0) s (w .1)

@@ -1,12 +1,12 @@
 -- What tidying promises: `tidies`. Assumes nothing.
 use Rattle.liveness.specs.Promises.{Tidies}
 use Rattle.liveness.proofs.Used.{computed}
-use Rattle.liveness.proofs.Tidied.{tidied-factors}
+use Rattle.liveness.proofs.Tidied.{tidied-year, tidied-factors}
 use Rattle.liveness.proofs.Again.{no-dead-line, idempotent}
 use Rattle.liveness.proofs.Same.{same-rating, same-premium}
 use Rattle.liveness.proofs.Differ.{differ}
 use Rattle.liveness.proofs.Lengths.{no-longer, at-most}
-use Rattle.liveness.proofs.Calls.{loads, again, leaves, written-exactly}
+use Rattle.liveness.proofs.Calls.{loads, again, year-unnamed, leaves, written-exactly}
 use Rattle.liveness.proofs.Refusals.{table, numbers, never-short, never-13, untouched}
 use Rattle.liveness.proofs.Printed.{whole}
 use Rattle.liveness.proofs.Engine.{calls}
@@ -15,6 +15,8 @@ pub tidies : Tidies
 tidies = record {
   computed = computed;
   factors = tidied-factors;
+  year = tidied-year;
+  year-unnamed = year-unnamed;
   loads = loads;
   no-dead-line = no-dead-line;
   idempotent = idempotent;

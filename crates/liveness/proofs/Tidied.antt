@@ -8,6 +8,7 @@ use lib.ListN.{length, drop, replicate, length-map}
 use lib.Seq.{take-append-seam, drop-append-seam}
 use Rattle.codelist.specs.declared.Codelist.{Codelist}
 use Rattle.codelist.specs.declared.Entry.{Entry}
+use Rattle.codelist.specs.declared.Year.{Year}
 use Rattle.codelist.specs.Codelist.{blank, Earlier, WellFormed, WellFormedOp}
 use Rattle.codelist.specs.Load.{codelistOf}
 use Rattle.rules.specs.Run.{operations}
@@ -38,22 +39,26 @@ module _ (k : ℕ → Bool) where
       go false g h = rw (tidy-dropped k e o os g) (rw (position-dropped k e g) at h)
 
 -- ---- of a codelist
-operations-of : (n : ℕ) (os : List Entry) → operations (codelistOf n os) ≡ os
+operations-of : (y : Year) (n : ℕ) (os : List Entry) → operations (codelistOf y n os) ≡ os
 unfolding codelistOf
-operations-of n os = take-append-seam os _
+operations-of y n os = take-append-seam os _
 
-blanks-of : (n : ℕ) (os : List Entry) → let d = codelistOf n os in drop (d .count) (d .ops) ≡ replicate (64 - d .count) blank
+blanks-of : (y : Year) (n : ℕ) (os : List Entry) → let d = codelistOf y n os in drop (d .count) (d .ops) ≡ replicate (64 - d .count) blank
 unfolding codelistOf
-blanks-of n os = drop-append-seam os _
+blanks-of y n os = drop-append-seam os _
 
 module _ (c : Codelist) where
-  pub tidied-is : tidied c ≡ codelistOf (c .factors) (tidiedOps c)
+  pub tidied-is : tidied c ≡ codelistOf (c .year) (c .factors) (tidiedOps c)
   unfolding tidied
   tidied-is = refl
 
   pub tidied-operations : operations (tidied c) ≡ tidiedOps c
   unfolding tidied
-  tidied-operations = operations-of (c .factors) (tidiedOps c)
+  tidied-operations = operations-of (c .year) (c .factors) (tidiedOps c)
+
+  pub tidied-year : tidied c .year ≡ c .year
+  unfolding tidied codelistOf
+  tidied-year = refl
 
   pub tidied-factors : tidied c .factors ≡ c .factors
   unfolding tidied codelistOf
@@ -65,7 +70,7 @@ module _ (c : Codelist) where
 
   tidied-blanks : drop (tidied c .count) (tidied c .ops) ≡ replicate (64 - tidied c .count) blank
   unfolding tidied
-  tidied-blanks = blanks-of (c .factors) (tidiedOps c)
+  tidied-blanks = blanks-of (c .year) (c .factors) (tidiedOps c)
 
   -- the factors keep their numbers
   pub factor-number : position (kept c) (c .factors) ≡ c .factors

@@ -17,6 +17,7 @@ use Rattle.codelist.specs.Codelist.{WellFormed, WellFormedOp}
 use Rattle.codelist.specs.Text.{lineText}
 use Rattle.codelist.specs.Write.{textLineOf, opsText, textOf}
 use Rattle.codelist.proofs.Lengths.{text-length}
+use Rattle.codelist.proofs.Years.{own-text}
 use Rattle.rules.specs.Run.{operations}
 use Rattle.writer.specs.Lent.{Lent, lent, putText}
 use Rattle.writer.proofs.Writing.{filled, putText-append}
@@ -126,16 +127,16 @@ module _ (c : Codelist) (marks : List Bool) (ns : List ℕ) (r : Ready c marks n
       ∙ ap opsText (tidy-dropped (kept c) (c .factors + k) (getD (c .ops) k d) (drop (suc k) (operations c)) (is-dropped g))
       ∙ after
 
--- ---- the whole text in an array of 1,261 bytes
+-- ---- the whole text in an array of 1,266 bytes
 pub record Fits (t b : List ℕ) (n : ℕ) : Type 0 where
   pub long : n ≡ length t
   pub front : take n b ≡ t
 
 module _ (c : Codelist) (w : WellFormed c) where
-  pub text-fits : length (textOf (tidied c)) ≤ 1261
-  text-fits = text-length (tidied c) (tidied-fine c w)
+  pub text-fits : length (textOf (tidied c)) ≤ 1266
+  text-fits = text-length (tidied c) (tidied-fine c w) (textOf (tidied c)) (own-text (tidied c))
 
-  pub in-array : (a b : List ℕ) (n : ℕ) → length a ≡ 1261 → lent b n ≡ putText (lent a 0) (textOf (tidied c)) → Fits (textOf (tidied c)) b n
+  pub in-array : (a b : List ℕ) (n : ℕ) → length a ≡ 1266 → lent b n ≡ putText (lent a 0) (textOf (tidied c)) → Fits (textOf (tidied c)) b n
   in-array a b n l e =
       let t = textOf (tidied c) in
       let f = e ∙ filled a t (omega (arith, text-fits)) in

@@ -1,4 +1,4 @@
--- 02, request 1, and request 5 where a sheet is tidied: figures from the definitions themselves, by computing.
+-- 02, request 1, and requests 5 and 9 where a sheet is tidied: figures from the definitions themselves, by computing.
 use mathlib.Core.List.{List, [], _∷_, _++_, map}
 use mathlib.Core.Path.{_≡_, refl}
 use Prim.Native.Nat.{ℕ}
@@ -12,13 +12,15 @@ use Rattle.codelist.specs.declared.Codelist.{Codelist}
 use Rattle.codelist.specs.declared.Op.{Op}
 use Rattle.codelist.specs.declared.Op.the-variants.{Inv, Pow, MulC}
 use Rattle.codelist.specs.declared.Refusal.the-variants.{ZeroMultiplier}
+use Rattle.codelist.specs.declared.Year.{Year}
+use Rattle.codelist.specs.declared.Year.the-variants.{Y2016, Y2014}
 use Rattle.codelist.specs.Codelist.{wellFormedOps, ratable}
 use Rattle.codelist.specs.Conditions.{isBetween, refersBack, exponentFits, constantFits, multiplierFits}
 use Rattle.codelist.specs.Load.{empty, codelistOf, valueOf, checkedOf, operationLines, loadOf}
 use Rattle.codelist.specs.Read.{peek, rest, digit, digits, positive, numeral, field, literal, named, keyword, pair, operands}
-use Rattle.codelist.specs.Read.{operationLine, firstLine}
-use Rattle.codelist.specs.Text.{decimal, numeralText}
-use Rattle.codelist.specs.Write.{numeralOf, textOf}
+use Rattle.codelist.specs.Read.{operationLine, firstFields, firstLine}
+use Rattle.codelist.specs.Text.{decimal, numeralText, yearOf}
+use Rattle.codelist.specs.Write.{numeralOf, textWith, textOf}
 use Rattle.range.specs.Limit.{isValid, bothValid, kept}
 use Rattle.range.specs.Arithmetic.{sumOf, negOf, timesOf, endsProduct, productOf, endsInverse, inverseOf, hullOf}
 use Rattle.range.specs.Power.{chain, upsWithin, powAbove, powBelow, powAcrossEven, powAcrossOdd, powAcross, powBySign, powOf}
@@ -50,8 +52,8 @@ pub record Figure : Type 0 where
   pub gives : Outcome
   pub leaves : List ℕ
 
-abbrev pub sheetOf : ℕ → List Op → Codelist
-sheetOf n os = codelistOf n (map (λ o. record { op = o }) os)
+abbrev pub sheetOf : Year → ℕ → List Op → Codelist
+sheetOf y n os = codelistOf y n (map (λ o. record { op = o }) os)
 
 -- a buffer of so many bytes
 abbrev pub bytes : ℕ → List ℕ
@@ -59,15 +61,23 @@ bytes k = replicate k 7
 
 -- `factors→1`, `inv→1`, `pow→1→2`, and the text without its dead line: a dropped line was the one refused
 abbrev pub dead-divisor : Codelist
-dead-divisor = sheetOf 1 (Inv 1 ∷ Pow 1 2 ∷ [])
+dead-divisor = sheetOf Y2016 1 (Inv 1 ∷ Pow 1 2 ∷ [])
 
 abbrev pub without-divisor : List ℕ
 without-divisor =
     (102 ∷ 97 ∷ 99 ∷ 116 ∷ 111 ∷ 114 ∷ 115 ∷ 9 ∷ 49 ∷ 10 ∷ []) ++ (112 ∷ 111 ∷ 119 ∷ 9 ∷ 49 ∷ 9 ∷ 50 ∷ 10 ∷ [])
 
+-- the same with `factors→1→2014`: the year is named
+abbrev pub dead-divisor-2014 : Codelist
+dead-divisor-2014 = sheetOf Y2014 1 (Inv 1 ∷ Pow 1 2 ∷ [])
+
+abbrev pub without-divisor-2014 : List ℕ
+without-divisor-2014 =
+    (102 ∷ 97 ∷ 99 ∷ 116 ∷ 111 ∷ 114 ∷ 115 ∷ 9 ∷ 49 ∷ 9 ∷ 50 ∷ 48 ∷ 49 ∷ 52 ∷ 10 ∷ []) ++ (112 ∷ 111 ∷ 119 ∷ 9 ∷ 49 ∷ 9 ∷ 50 ∷ 10 ∷ [])
+
 -- `factors→2`, `inv→2`, `pow→1→2`, `mulc→4→5000` becomes `factors→2`, `pow→1→2`, `mulc→3→5000`, of 30 bytes: an unused factor is kept
 abbrev pub dead-line : Codelist
-dead-line = sheetOf 2 (Inv 2 ∷ Pow 1 2 ∷ MulC 4 (pos 5000) ∷ [])
+dead-line = sheetOf Y2016 2 (Inv 2 ∷ Pow 1 2 ∷ MulC 4 (pos 5000) ∷ [])
 
 abbrev pub without-line : List ℕ
 without-line =
@@ -77,7 +87,7 @@ without-line =
 
 -- `factors→1`, `mulc→1→0`, `pow→1→2`
 abbrev pub dead-zero : Codelist
-dead-zero = sheetOf 1 (MulC 1 (pos 0) ∷ Pow 1 2 ∷ [])
+dead-zero = sheetOf Y2016 1 (MulC 1 (pos 0) ∷ Pow 1 2 ∷ [])
 
 -- V 0..5000, G 0..10000, E 10000..10000
 abbrev pub half-square : Rating
@@ -97,6 +107,16 @@ figures =
       rates-tidied = limits (0 to 10000) (slopes (0 to 20000) zeroRange) 1 1 (20000 to 20000) (20000 to 20000);
       gives = Written 18;
       leaves = without-divisor;
+    }
+    -- 02, request 9: five bytes more
+    ∷ record {
+      sheet = dead-divisor-2014;
+      numbers = pos 0 ∷ pos 10000 ∷ [];
+      buffer = bytes 23;
+      rates = refused (Divisor 2);
+      rates-tidied = limits (0 to 10000) (slopes (0 to 20000) zeroRange) 1 1 (20000 to 20000) (20000 to 20000);
+      gives = Written 23;
+      leaves = without-divisor-2014;
     }
     -- 29 bytes are too few
     ∷ record {
@@ -160,7 +180,7 @@ unfolding rateOf rateRanges firstBad limitsOf last linesOf runOps factorLines ro
     has sumOver sumBelow validBelow endsProducts productsOf largestSquare squareSum squaresOf rootSum rootOf
     floorDiv ceilDiv floorQuot ceilQuot ceilSqrt floorSqrt rootBits ones onesIn trailingZeros
     tidyOf bufferOf loadOf operationLines checkedOf valueOf codelistOf empty isBetween refersBack exponentFits constantFits multiplierFits
-    peek rest digit digits positive numeral field literal named keyword pair operands operationLine firstLine
-    decimal numeralText numeralOf textOf
+    peek rest digit digits positive numeral field literal named keyword pair operands operationLine firstFields firstLine yearOf
+    decimal numeralText numeralOf textWith textOf
     usedBy used Tidied.kept picked position tidyOps tidied
 figures-right = refl

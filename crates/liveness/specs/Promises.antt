@@ -1,4 +1,4 @@
--- What tidying promises: proved in proofs/Promises.antt. 02, request 1.
+-- What tidying promises: proved in proofs/Promises.antt. 02, request 1; of the year, request 9.
 use Prim.Native.Nat.{ℕ, _≤_, _<_}
 use mathlib.Core.Bool.{true}
 use mathlib.Core.List.{List, _++_, List·Memᴰ}
@@ -7,9 +7,11 @@ use mathlib.Core.Path.{_≡_}
 use lib.IntN.{ℤ}
 use lib.ListN.{length, take, drop}
 use Rattle.codelist.specs.declared.Codelist.{Codelist}
+use Rattle.codelist.specs.declared.Year.the-variants.{Y2016}
 use Rattle.codelist.specs.Codelist.{WellFormed}
 use Rattle.codelist.specs.Load.{loadOf, accepted}
-use Rattle.codelist.specs.Write.{textOf}
+use Rattle.codelist.specs.Text.{absent}
+use Rattle.codelist.specs.Write.{year2016, textWith, textOf}
 use Rattle.rules.specs.declared.Limits.{Limits}
 use Rattle.rules.specs.declared.Outcome as rating
 use Rattle.rules.specs.declared.Rating.{Rating}
@@ -55,6 +57,12 @@ pub record Tidies : Type 0 where
   -- the lines that are kept are those that the last one uses, "directly or through others", and the factors: "all factors kept"
   pub computed : (c : Codelist) → WellFormed c → (i : ℕ) → (used c i ≡ true) ↔ Used c i
   pub factors : (c : Codelist) → tidied c .factors ≡ c .factors
+  -- "A tidied sheet names the year only for 2014" (request 9): it is of the sheet's year, and a sheet that names 2016 is tidied as the one that
+  -- names none
+  pub year : (c : Codelist) → tidied c .year ≡ c .year
+  pub year-unnamed : (c : Codelist) → WellFormed c → c .year ≡ Y2016 → (b : List ℕ)
+      → (tidyOf (textWith year2016 c) (length b) ≡ tidyOf (textWith absent c) (length b))
+      × (bufferOf (textWith year2016 c) b ≡ bufferOf (textWith absent c) b)
   -- what is written is a sheet that 01's rules write, and "without dead lines"
   pub loads : (c : Codelist) → WellFormed c → loadOf (textOf (tidied c)) ≡ accepted (tidied c)
   pub no-dead-line : (c : Codelist) → WellFormed c → (k : ℕ) → c .factors < k → k ≤ lines (tidied c) → Used (tidied c) k
@@ -74,8 +82,8 @@ pub record Tidies : Type 0 where
       → (r : rules.Refusal) × ((rateOf c xs ≡ refused r) × (¬ AtUsed c r))
   -- the exact premium and its derivatives, and whether there are any
   pub same-premium : (c : Codelist) → WellFormed c → (p : Point) → premiumOf (tidied c) p ≡ premiumOf c p
-  -- no sheet that is accepted has more than 1,261 bytes
-  pub at-most : (s : List ℕ) (c : Codelist) → loadOf s ≡ accepted c → length s ≤ 1261
+  -- no sheet that is accepted has more than 1,266 bytes
+  pub at-most : (s : List ℕ) (c : Codelist) → loadOf s ≡ accepted c → length s ≤ 1266
   -- a buffer of the sheet's own length is never too short
   pub no-longer : (s : List ℕ) (c : Codelist) → loadOf s ≡ accepted c → length (textOf (tidied c)) ≤ length s
   pub never-short : (s : List ℕ) (k : ℕ) → length s ≤ k → ¬ (tidyOf s k ≡ Refused Short)

@@ -22,7 +22,7 @@ pub record RefusedWith (o : Outcome) (number place : ℕ) : Type 0 where
 
 -- the number and the place
 pub data TidyTable (s : List ℕ) (k : ℕ) : ℕ → ℕ → Type 0 where
-  -- 1 to 7 and 15: the rows of loading
+  -- 1 to 7, 15 and 17: the rows of loading
   loading : {number place : ℕ} → LoadTable s number place → TidyTable s k number place
   -- 13 | a buffer that is too short, "after all refusals of loading" | 0
   short : {c : Codelist} → loadOf s ≡ accepted c → k < length (textOf (tidied c)) → TidyTable s k 13 0

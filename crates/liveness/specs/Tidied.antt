@@ -44,6 +44,6 @@ tidyOps k e os = map (moved (position k)) (picked k e os)
 abbrev pub tidiedOps : Codelist → List Entry
 tidiedOps c = tidyOps (kept c) (c .factors) (operations c)
 
--- THE TIDIED CODELIST
+-- THE TIDIED CODELIST, of the same year
 unfoldable pub tidied : Codelist → Codelist
-tidied c = codelistOf (c .factors) (tidiedOps c)
+tidied c = codelistOf (c .year) (c .factors) (tidiedOps c)

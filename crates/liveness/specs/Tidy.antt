@@ -16,7 +16,7 @@ use Rattle.liveness.specs.declared.Refusal as refusal
 use Rattle.liveness.specs.declared.Refusal.{Refusal}
 use Rattle.liveness.specs.Tidied.{tidied}
 
--- the number and place of each refusal: loading's 1 to 7 and 15, and "A buffer that is too short gets refusal 13, place 0"
+-- the number and place of each refusal: loading's 1 to 7, 15 and 17, and "A buffer that is too short gets refusal 13, place 0"
 abbrev pub numberOf : Refusal → ℕ
 numberOf (refusal.the-variants.Load r) = Load.numberOf r
 numberOf refusal.the-variants.Short = 13

@@ -14,7 +14,7 @@ mod writing; // writing.rt: the text
 
 // Why nothing is written.
 pub enum Refusal {
-    // 1 to 7 and 15: the sheet is refused.
+    // 1 to 7, 15 and 17: the sheet is refused.
     Load(codelist::Refusal),
     // 13: the buffer is shorter than the tidied sheet.
     Short,
@@ -55,7 +55,7 @@ fn fit(buffer: &mut [u8], c: Codelist) -> Outcome
     ensures { λ r. ⌜ r ≡ fitted (textOf (tidied c)) (length (now (buffer .entry))) ⌝ }
     ensures { λ r. ⌜ now (buffer .exit) ≡ bufferAfter r (textOf (tidied c)) (now (buffer .entry)) ⌝ }
 {
-    let mut text = [0u8; 1261];
+    let mut text = [0u8; 1266];
     let len = writing::tidied_text(&mut text, c);
     if buffer.len() < len {
         return Outcome::Refused(Refusal::Short);

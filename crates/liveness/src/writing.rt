@@ -2,8 +2,8 @@
 ghost use mathlib.Core.Path.{_≡_};
 ghost use Prim.Native.Nat.{_<_};
 ghost use Rattle.codelist.specs.Codelist.{WellFormed};
-ghost use Rattle.codelist.specs.Text.{lineText};
-ghost use Rattle.codelist.specs.Write.{textLineOf, opsText, textOf};
+ghost use Rattle.codelist.specs.Text.{firstText, lineText};
+ghost use Rattle.codelist.specs.Write.{plain, textLineOf, opsText, fieldOf, textOf};
 ghost use Rattle.writer.specs.Lent.{lent, putText};
 ghost use Rattle.liveness.specs.Tidied.{tidiedOps, tidied};
 ghost use Rattle.liveness.specs.Views.{Ready, FewDigits};
@@ -11,6 +11,7 @@ use super::marks;
 use super::renumbering;
 use codelist::Codelist;
 use codelist::Op;
+use codelist::Year;
 
 // A byte as a number.
 fn wide(x: u8) -> u64
@@ -18,6 +19,16 @@ fn wide(x: u8) -> u64
     ensures { λ r. ⌜ r < 256 ⌝ }
 {
     x as u64
+}
+
+// The first line (02, request 9): the year is named only for 2014.
+fn first_line(text: &mut [u8], at: usize, year: Year, n: u8) -> usize
+    ensures { λ r. ⌜ lent (now (text .exit)) r ≡ putText (lent (now (text .entry)) at) (firstText (plain n) (fieldOf year)) ⌝ }
+{
+    match year {
+        Year::Y2016 => writer::line_of_one(text, at, b"factors\t", wide(n)),
+        Year::Y2014 => writer::line_of_two(text, at, b"factors\t", wide(n), 2014),
+    }
 }
 
 // An operation's line.
@@ -66,9 +77,10 @@ pub(crate) fn tidied_text(text: &mut [u8], c: Codelist) -> usize
     requires { ⌜ WellFormed c ⌝ }
     ensures { λ r. ⌜ lent (now (text .exit)) r ≡ putText (lent (now (text .entry)) 0) (textOf (tidied c)) ⌝ }
 {
+    let year = c.year;
     let n = c.factors;
     let marks = marks::used_lines(c);
     let numbers = renumbering::numbers(marks, n);
-    let at = writer::line_of_one(text, 0, b"factors\t", wide(n));
+    let at = first_line(text, 0, year, n);
     op_lines(text, at, c, marks, numbers)
 }

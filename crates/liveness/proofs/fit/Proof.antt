@@ -18,7 +18,7 @@ fits : (t : tie.After-tidied-text) → Fits (textOf (tidied (t .before .before .
 fits t = let start = t .before .before .before in in-array (start .args .c) (start .pre) _ _ _ refl (t .tidied-text .ensures)
 
 -- it is within the array
-inside : (t : tie.After-tidied-text) → t .tidied-text .result ≤ 1261
+inside : (t : tie.After-tidied-text) → t .tidied-text .result ≤ 1266
 inside t = let start = t .before .before .before in omega (arith, fits t .long, text-fits (start .args .c) (start .pre))
 
 returns : tie.Need-returns
