@@ -9,6 +9,7 @@ use Rattle.exact.specs.Div.{floorDiv, ceilDiv, floorQuot, ceilQuot}
 use Rattle.exact.specs.Sqrt.{ceilSqrt, floorSqrt, rootBits}
 use Rattle.codelist.specs.declared.Op.{Op}
 use Rattle.codelist.specs.declared.Op.the-variants.{Mul, AddC, MulC, Inv}
+use Rattle.codelist.specs.declared.Year.the-variants.{Y2016}
 use Rattle.codelist.specs.Codelist.{wellFormedOps, ratable}
 use Rattle.codelist.specs.Load.{codelistOf}
 use Rattle.range.specs.declared.Range.{Range}
@@ -78,7 +79,7 @@ rows =
 -- WHAT THE CUT GIVES of a class at a depth, and at as many as are listed
 abbrev pub figureOf : Class → ℤ → Figure
 figureOf k d =
-    let c = codelistOf (k .factors) (map (λ o. record { op = o }) (k .operations)) in
+    let c = codelistOf Y2016 (k .factors) (map (λ o. record { op = o }) (k .operations)) in
     let b = cutOf (record { codelist = c }) (ends (k .ranges)) d in
     record { outcome = b .outcome; value = b .limits .value }
 
@@ -121,7 +122,7 @@ calls =
     ∷ []
 
 abbrev pub outcomeOf : Call → Outcome
-outcomeOf k = cutOf (record { codelist = codelistOf (k .factors) (map (λ o. record { op = o }) (k .operations)) }) (k .numbers) (k .depth) .outcome
+outcomeOf k = cutOf (record { codelist = codelistOf Y2016 (k .factors) (map (λ o. record { op = o }) (k .operations)) }) (k .numbers) (k .depth) .outcome
 
 pub calls-right : map outcomeOf calls ≡ map (λ k. k .outcome) calls
 unfolding cutOf countedOf partsOf firstBad codelistOf ratable wellFormedOps isValid

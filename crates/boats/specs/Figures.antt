@@ -9,6 +9,7 @@ use Rattle.algebra.specs.Sum.{sumBelow}
 use Rattle.exact.specs.Div.{floorDiv, ceilDiv, floorQuot, ceilQuot}
 use Rattle.exact.specs.Sqrt.{ceilSqrt, floorSqrt, rootBits}
 use Rattle.codelist.specs.declared.Op.the-variants.{Inv, MulC}
+use Rattle.codelist.specs.declared.Year.the-variants.{Y2016}
 use Rattle.codelist.specs.Codelist.{wellFormedOps, ratable}
 use Rattle.codelist.specs.Load.{empty, codelistOf}
 use Rattle.range.specs.Limit.{isValid, bothValid, kept}
@@ -35,10 +36,10 @@ pub record Figure : Type 0 where
 
 -- one factor, `inv→1`; and one factor, `mulc→1→-10000`
 abbrev pub inverse : Engine
-inverse = record { codelist = codelistOf 1 (record { op = Inv 1 } ∷ []) }
+inverse = record { codelist = codelistOf Y2016 1 (record { op = Inv 1 } ∷ []) }
 
 abbrev pub negative : Engine
-negative = record { codelist = codelistOf 1 (record { op = MulC 1 (negsuc 9999) } ∷ []) }
+negative = record { codelist = codelistOf Y2016 1 (record { op = MulC 1 (negsuc 9999) } ∷ []) }
 
 -- a boat with this first number, and seven others that are beyond the limit
 abbrev pub boat : ℕ → List ℤ

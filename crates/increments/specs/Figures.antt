@@ -10,6 +10,7 @@ use Rattle.exact.specs.Div.{floorDiv, ceilDiv, floorQuot, ceilQuot}
 use Rattle.exact.specs.Sqrt.{ceilSqrt, floorSqrt, rootBits}
 use Rattle.codelist.specs.declared.Op.{Op}
 use Rattle.codelist.specs.declared.Op.the-variants.{Add, Mul, AddC, MulC, Pow, Inv}
+use Rattle.codelist.specs.declared.Year.the-variants.{Y2016}
 use Rattle.codelist.specs.Codelist.{wellFormedOps, ratable}
 use Rattle.codelist.specs.Load.{codelistOf}
 use Rattle.range.specs.Limit.{isValid, bothValid, kept}
@@ -157,7 +158,7 @@ figures =
     ∷ []
 
 abbrev pub answerOf : Figure → Difference
-answerOf f = sistersOf (record { codelist = codelistOf (f .factors) (map (λ o. record { op = o }) (f .operations)) }) (f .ranges) (f .boats)
+answerOf f = sistersOf (record { codelist = codelistOf Y2016 (f .factors) (map (λ o. record { op = o }) (f .operations)) }) (f .ranges) (f .boats)
 
 pub all-right : map answerOf figures ≡ map (λ f. f .gives) figures
 unfolding sistersOf boatsOf firstOutside outsideFrom holds leastSum greatestSum
