@@ -7,6 +7,7 @@ use Prim.Native.Nat.{ℕ, zero}
 use native.Mathlib.Omega.{arith}
 use lib.IntN.{ℤ, pos, natAbs}
 use lib.Signed.{leZ-yes}
+use Rattle.codelist.specs.declared.Year.the-variants.{Y2016, Y2014}
 use Rattle.rules.specs.declared.Refusal as rules
 use Rattle.rules.specs.declared.Outcome as rating
 use Rattle.rules.specs.declared.Limits.{Limits}
@@ -14,12 +15,13 @@ use Rattle.rules.specs.declared.Rating.{Rating}
 use Rattle.rules.specs.Rate.{rated, refused, pairs, rateRanges, rateOf}
 use Rattle.rules.specs.Refused.{Runnable}
 use Rattle.rules.specs.Exact.{Point, Jet, premiumOf}
-use Rattle.rules.specs.Promises.{Vanishing, Nested}
+use Rattle.rules.specs.Promises.{Vanishing}
+use Rattle.rules.specs.Years.{Nested, AllBent}
 use Rattle.rules.specs.Figures.{ends}
 use Rattle.rules.specs.SameSets.{SameSets}
 use Rattle.rules.proofs.Refused.{refused-exactly}
 use Rattle.rules.proofs.Published.{published}
-use Rattle.rules.proofs.Nested.{nested}
+use Rattle.rules.proofs.Years.{nested, not-lifted, all-bent}
 use Rattle.rules.proofs.Vanishing.{vanishing}
 use Rattle.rules.proofs.SameSets.{same-sets}
 use Rattle.engine.specs.declared.Engine.{Engine}
@@ -129,11 +131,17 @@ module _ (e : Engine) (xs : List ℤ) (d : ℤ) where
       record { support = F .sets .support ∙ s .support; nonlinear = F .sets .nonlinear ∙ s .nonlinear }
 
   -- its sets are those of the plain rating
-  cut-nested : cutOf e xs d .outcome ≡ Accepted → Nested (cutOf e xs d .limits)
-  cut-nested o =
+  cut-nested : e .codelist .year ≡ Y2016 → cutOf e xs d .outcome ≡ Accepted → Nested (cutOf e xs d .limits)
+  cut-nested y o =
       let F = all-of o in
-      let h = nested (e .codelist) (F .ranges) (F .plain) (F .accepted) in
+      let h = nested (e .codelist) (F .ranges) (F .plain) y (F .accepted) in
       record { into = rw (F .sets .support, F .sets .nonlinear) (h .into) }
+
+  cut-all-bent : e .codelist .year ≡ Y2014 → cutOf e xs d .outcome ≡ Accepted → AllBent (e .codelist) (cutOf e xs d .limits)
+  cut-all-bent y o =
+      let F = all-of o in
+      let b = F .sets .nonlinear ∙ all-bent (e .codelist) (F .ranges) (F .plain) y (F .accepted) .nonlinear in
+      record { nonlinear = b; full = F .lifted ∙ not-lifted _ b }
 
   cut-vanishing : cutOf e xs d .outcome ≡ Accepted → (p : Point) (premium : Jet) → premiumOf (e .codelist) p ≡ some premium
       → Vanishing (cutOf e xs d .limits) premium
@@ -165,6 +173,7 @@ cut-sound = record {
       run e xs d i t ∙ ap answerOf (parts-leaves (natAbs d) (ready t) ∙ ap together (map-congr-left {l = leaves (natAbs d) (pairs xs)} (λ ls m. published .rating (e .codelist) (ends ls))));
   sound = λ e xs d o p i. all-of e xs d o .sound p (record { each = i .each });
   nested = cut-nested;
+  all-bent = cut-all-bent;
   vanishing = cut-vanishing;
   shaped = λ e xs d o. all-of e xs d o .shaped;
   same-sets = sets;

@@ -21,7 +21,7 @@ use Rattle.range.specs.Star.{magnitudeOf, starRoot, endsStar, isHalf, starOf}
 use Rattle.rules.specs.declared.Refusal.the-variants.{NoCodelist, RangeCount, BadRange, Divisor}
 use Rattle.rules.specs.Sets.{apart, isSingle, only}
 use Rattle.rules.specs.Table.{factorRow, addRow, addcRow, mulcRow, mulRow, powRow, invRow, lineOf}
-use Rattle.rules.specs.Run.{rowOf, invertsZero, within, runOps, factorLines, linesOf}
+use Rattle.rules.specs.Run.{rowOf, invertsZero, within, runOps, factorLines, bentIn, linesOf}
 use Rattle.rules.specs.Rate.{last, limitsOf, noLimits, firstBad, rateRanges}
 use Rattle.rules.specs.Figures.{_to_, −, ends}
 use Rattle.bisection.specs.declared.Refusal.the-variants.{Depth, Rate}
@@ -89,7 +89,7 @@ figuresFrom k d (f ∷ fs) = figureOf k (pos d) ∷ figuresFrom k (suc d) fs
 
 pub all-right : map (λ r. figuresFrom (r .class) 0 (r .gives)) rows ≡ map (λ r. r .gives) rows
 unfolding cutOf countedOf partsOf parts hullLimits lowerPart upperPart cutPoint narrow widest widestFrom
-    rateRanges noLimits firstBad limitsOf last linesOf runOps factorLines rowOf invertsZero within lineOf
+    rateRanges noLimits firstBad limitsOf last linesOf bentIn runOps factorLines rowOf invertsZero within lineOf
     factorRow addRow addcRow mulcRow mulRow powRow invRow apart isSingle only
     codelistOf ratable wellFormedOps
     isValid bothValid kept sumOf negOf timesOf endsProduct productOf endsInverse inverseOf hullOf

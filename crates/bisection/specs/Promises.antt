@@ -8,6 +8,7 @@ use lib.IntN.{ℤ, pos, natAbs}
 use lib.ListN.{length}
 use lib.Signed.{_≤ℤ_, _<ℤ_}
 use Rattle.codelist.specs.declared.Codelist.{Codelist}
+use Rattle.codelist.specs.declared.Year.the-variants.{Y2016, Y2014}
 use Rattle.codelist.specs.Codelist.{Ratable}
 use Rattle.exact.specs.Units.{In}
 use Rattle.range.specs.declared.Range.{Range}
@@ -23,7 +24,8 @@ use Rattle.rules.specs.Rate.{rated, noLimits, pairs, rateOf}
 use Rattle.rules.specs.Refused.{Runnable, RefusedFor}
 use Rattle.rules.specs.Published.{publishedOf}
 use Rattle.rules.specs.Exact.{Point, Jet, coordinate, premiumOf}
-use Rattle.rules.specs.Promises.{Inside, Sound, Vanishing, Shaped, Nested}
+use Rattle.rules.specs.Promises.{Inside, Sound, Vanishing, Shaped}
+use Rattle.rules.specs.Years.{Nested, AllBent}
 use Rattle.rules.specs.SameSets.{SameSets}
 use Rattle.rules.specs.Figures.{ends}
 use Rattle.engine.specs.declared.Engine.{Engine}
@@ -142,7 +144,9 @@ pub record CutSound : Type 0 where
   pub sound : (e : Engine) (xs : List ℤ) (d : ℤ) → cutOf e xs d .outcome ≡ Accepted → (p : Point) → Inside (e .codelist) xs p
       → Sound (e .codelist) (cutOf e xs d .limits) p
   pub shaped : (e : Engine) (xs : List ℤ) (d : ℤ) → cutOf e xs d .outcome ≡ Accepted → Shaped (e .codelist) (cutOf e xs d .limits)
-  pub nested : (e : Engine) (xs : List ℤ) (d : ℤ) → cutOf e xs d .outcome ≡ Accepted → Nested (cutOf e xs d .limits)
+  pub nested : (e : Engine) (xs : List ℤ) (d : ℤ) → e .codelist .year ≡ Y2016 → cutOf e xs d .outcome ≡ Accepted → Nested (cutOf e xs d .limits)
+  pub all-bent : (e : Engine) (xs : List ℤ) (d : ℤ) → e .codelist .year ≡ Y2014 → cutOf e xs d .outcome ≡ Accepted
+      → AllBent (e .codelist) (cutOf e xs d .limits)
   -- outside the sets the exact derivatives are 0, at every point that has a premium
   pub vanishing : (e : Engine) (xs : List ℤ) (d : ℤ) → cutOf e xs d .outcome ≡ Accepted → (p : Point) (premium : Jet)
       → premiumOf (e .codelist) p ≡ some premium → Vanishing (cutOf e xs d .limits) premium

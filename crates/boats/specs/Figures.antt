@@ -18,7 +18,7 @@ use Rattle.range.specs.Power.{chain, upsWithin, powAbove, powBelow, powAcrossEv
 use Rattle.range.specs.Sums.{has, sumOver, validBelow, endsProducts, productsOf, largestSquare, squareSum, squaresOf, rootSum, rootOf}
 use Rattle.rules.specs.Sets.{apart, isSingle, only}
 use Rattle.rules.specs.Table.{factorRow, addRow, addcRow, mulcRow, mulRow, powRow, invRow, lineOf}
-use Rattle.rules.specs.Run.{rowOf, invertsZero, within, runOps, factorLines, linesOf}
+use Rattle.rules.specs.Run.{rowOf, invertsZero, within, runOps, factorLines, bentIn, linesOf}
 use Rattle.rules.specs.Rate.{last, limitsOf, firstBad, rateRanges, rateOf}
 use Rattle.engine.specs.declared.Engine.{Engine}
 use Rattle.engine.specs.Engine.{emptyEngine, ratedOf}
@@ -77,7 +77,7 @@ computed f = record { engine = f .engine; boats = f .boats; answers = fleetOf (f
 
 pub figures-right : map computed figures ≡ figures
 unfolding fleetOf figuresOf leads boatRating doubled ratedOf emptyEngine empty
-    rateOf rateRanges firstBad limitsOf last linesOf runOps factorLines rowOf invertsZero within lineOf
+    rateOf rateRanges firstBad limitsOf last linesOf bentIn runOps factorLines rowOf invertsZero within lineOf
     factorRow addRow addcRow mulcRow mulRow powRow invRow apart isSingle only
     codelistOf ratable wellFormedOps
     isValid bothValid kept sumOf negOf timesOf endsProduct productOf endsInverse inverseOf hullOf

@@ -15,6 +15,7 @@ use Rattle.range.specs.Sums.{at}
 use Rattle.rules.specs.declared.Line.{Line}
 use Rattle.rules.specs.Table.{factorRow, lineOf}
 use Rattle.rules.specs.Run.{noLine, eachValid, factorLines}
+use Rattle.rules.proofs.Accepted.{factors-length}
 use Rattle.bounds.specs.declared.slopes.Slopes.{Slopes}
 use Rattle.bounds.specs.Table.{gradientAt, linesUpTo, Ready, Started, Worked}
 use Rattle.bounds.proofs.Factors.{factor-fine}
@@ -27,11 +28,6 @@ unfolding factorLines
 factor-at b i k [] h = absurd (omega arith)
 factor-at b i zero (r ∷ rs) h = ap (λ (j : ℕ). lineOf (factorRow b j r)) (omega arith)
 factor-at b i (suc k) (r ∷ rs) h = factor-at b (suc i) k rs (omega arith) ∙ ap (λ (j : ℕ). lineOf (factorRow b j (at rs k))) (omega arith)
-
-factors-long : (b i : ℕ) (rs : List Range) → length (factorLines b i rs) ≡ length rs
-unfolding factorLines
-factors-long b i [] = refl
-factors-long b i (r ∷ rs) = ap suc (factors-long b (suc i) rs)
 
 -- the first k lines are those of the first k factors, and g are the slopes of the last of them
 pub record Begun (b : ℕ) (rs : List Range) (t : List ℤ) (s : List ℕ) (g : List Range) (k : ℕ) : Type 0 where
@@ -55,7 +51,7 @@ module _ (b : ℕ) (rs : List Range) (v : eachValid rs ≡ true) where
           ready = ready-more k _ (i .started .ready) placed fine;
           lines = lines-more k _ (i .started .ready) placed
               ∙ ap₂ (λ (ls : List Line) (l : Line). ls ++ (l ∷ [])) (i .started .lines) here
-              ∙ sym (take-suc (factorLines b 0 rs) k noLine (omega (arith, factors-long b 0 rs)))
+              ∙ sym (take-suc (factorLines b 0 rs) k noLine (omega (arith, factors-length b 0 rs)))
               ∙ ap (λ (n : ℕ). take n (factorLines b 0 rs)) (sym (add-one k));
         };
         slopes = λ n. row-slopes p ok;
@@ -64,6 +60,6 @@ module _ (b : ℕ) (rs : List Range) (v : eachValid rs ≡ true) where
   pub begun-all : (t : List ℤ) (s : List ℕ) (g : List Range) (n k : ℕ) → length rs ≡ n → 1 ≤ n → n ≡ k → Begun b rs t s g k
       → Started (factorLines b 0 rs) n t s × (g ≡ gradientAt t (n - 1))
   begun-all t s g n k e one f i =
-      let all : take k (factorLines b 0 rs) ≡ factorLines b 0 rs = take-all k (factorLines b 0 rs) (omega (arith, factors-long b 0 rs)) in
+      let all : take k (factorLines b 0 rs) ≡ factorLines b 0 rs = take-all k (factorLines b 0 rs) (omega (arith, factors-length b 0 rs)) in
       subst (λ (m : ℕ). Started (factorLines b 0 rs) m t s × (g ≡ gradientAt t (m - 1))) (sym f)
       (record { ready = i .started .ready; lines = i .started .lines ∙ all }, i .slopes (omega (arith, one, f)))

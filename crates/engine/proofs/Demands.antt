@@ -26,7 +26,7 @@ use Rattle.rules.specs.Rate.{noLimits, rateOf, rateRanges, finished, firstBad}
 use Rattle.rules.specs.Run.{Lines, through, stopped, linesOf}
 use Rattle.rules.proofs.Sound.{sound}
 use Rattle.rules.proofs.Shaped.{shaped}
-use Rattle.rules.proofs.Nested.{nested}
+use Rattle.rules.proofs.Years.{nested, all-bent}
 use Rattle.rules.proofs.Vanishing.{vanishing}
 use Rattle.rules.proofs.Sisters.{sisters}
 use Rattle.rules.proofs.Published.{published}
@@ -289,7 +289,8 @@ demands = record {
   empty-refused = λ xs. refl;
   loaded-not-empty = λ e s xs h r. never-ten (loadedOf e s .engine) xs (written e s h .0) r;
   shaped = λ e xs h. shaped (e .codelist) xs (ratedOf e xs .limits) (accepted-rating e xs h);
-  nested = λ e xs h. nested (e .codelist) xs (ratedOf e xs .limits) (accepted-rating e xs h);
+  nested = λ e xs y h. nested (e .codelist) xs (ratedOf e xs .limits) y (accepted-rating e xs h);
+  all-bent = λ e xs y h. all-bent (e .codelist) xs (ratedOf e xs .limits) y (accepted-rating e xs h);
   sound = λ e xs h p i. sound (e .codelist) xs (ratedOf e xs .limits) (accepted-rating e xs h) p i;
   sisters = λ e xs h p q i j. sisters (e .codelist) xs (ratedOf e xs .limits) (accepted-rating e xs h) p q i j;
   vanishing = λ e xs h p j is. vanishing (e .codelist) xs (ratedOf e xs .limits) (accepted-rating e xs h) p j is;

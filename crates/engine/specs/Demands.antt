@@ -7,6 +7,7 @@ use mathlib.Core.Option.{some}
 use Prim.Native.Nat.{ℕ}
 use lib.IntN.{ℤ}
 use Rattle.codelist.specs.declared.Codelist.{Codelist}
+use Rattle.codelist.specs.declared.Year.the-variants.{Y2016, Y2014}
 use Rattle.codelist.specs.declared.Refusal as codelist
 use Rattle.codelist.specs.Codelist.{WellFormed}
 use Rattle.codelist.specs.Load.{loadNumbers}
@@ -19,7 +20,8 @@ use Rattle.rules.specs.Published.{publishedOf, PublishedLines}
 use Rattle.rules.specs.Exact.{Point, Jet, premiumOf}
 use Rattle.rules.specs.declared.Refusal as rules
 use Rattle.rules.specs.Refused as Rules
-use Rattle.rules.specs.Promises.{Inside, Sound, Vanishing, Shaped, Nested}
+use Rattle.rules.specs.Promises.{Inside, Sound, Vanishing, Shaped}
+use Rattle.rules.specs.Years.{Nested, AllBent}
 use Rattle.rules.specs.Sisters.{Sisters}
 use Rattle.engine.specs.declared.Engine.{Engine}
 use Rattle.engine.specs.declared.Refusal as refusal
@@ -62,10 +64,12 @@ pub record Demands : Type 0 where
   pub empty-refused : (xs : List ℤ) → ratedOf emptyEngine xs .outcome ≡ Refused (refusal.the-variants.Rate NoCodelist)
   pub loaded-not-empty : (e : Engine) (s : List ℕ) (xs : List ℤ) → loadedOf e s .outcome ≡ Accepted
       → ¬ (ratedOf (loadedOf e s .engine) xs .outcome ≡ Refused (refusal.the-variants.Rate NoCodelist))
-  -- "a pair beyond the last factor is 0, 0", and "For an empty B, E is zero"; both sets hold factors of the codelist, and the bent set is within
-  -- the depends-on set
+  -- "a pair beyond the last factor is 0, 0", and "For an empty B, E is zero"; both sets hold factors of the codelist; in 2016 the bent set is within
+  -- the depends-on set, and in 2014 it is all factors
   pub shaped : (e : Engine) (xs : List ℤ) → ratedOf e xs .outcome ≡ Accepted → Shaped (e .codelist) (ratedOf e xs .limits)
-  pub nested : (e : Engine) (xs : List ℤ) → ratedOf e xs .outcome ≡ Accepted → Nested (ratedOf e xs .limits)
+  pub nested : (e : Engine) (xs : List ℤ) → e .codelist .year ≡ Y2016 → ratedOf e xs .outcome ≡ Accepted → Nested (ratedOf e xs .limits)
+  pub all-bent : (e : Engine) (xs : List ℤ) → e .codelist .year ≡ Y2014 → ratedOf e xs .outcome ≡ Accepted
+      → AllBent (e .codelist) (ratedOf e xs .limits)
   -- 3. "Whatever accepted sheet and ranges, whatever point with fractions as coordinates inside them, whatever list v of whole numbers"
   pub sound : (e : Engine) (xs : List ℤ) → ratedOf e xs .outcome ≡ Accepted → (p : Point) → Inside (e .codelist) xs p
       → Sound (e .codelist) (ratedOf e xs .limits) p

@@ -21,7 +21,7 @@ use Rattle.range.specs.Star.{magnitudeOf, starRoot, endsStar, isHalf, starOf}
 use Rattle.rules.specs.declared.Refusal.the-variants.{NoCodelist, RangeCount, BadRange, Divisor}
 use Rattle.rules.specs.Sets.{apart, isSingle, only}
 use Rattle.rules.specs.Table.{factorRow, addRow, addcRow, mulcRow, mulRow, powRow, invRow, lineOf}
-use Rattle.rules.specs.Run.{rowOf, invertsZero, within, runOps, factorLines, linesOf}
+use Rattle.rules.specs.Run.{rowOf, invertsZero, within, runOps, factorLines, bentIn, linesOf}
 use Rattle.rules.specs.Rate.{last, limitsOf, noLimits, firstBad, rateRanges, rateOf}
 use Rattle.rules.specs.Figures.{−}
 use Rattle.engine.specs.declared.Outcome.the-variants.{Accepted}
@@ -162,7 +162,7 @@ answerOf f = sistersOf (record { codelist = codelistOf Y2016 (f .factors) (map (
 
 pub all-right : map answerOf figures ≡ map (λ f. f .gives) figures
 unfolding sistersOf boatsOf firstOutside outsideFrom holds leastSum greatestSum
-    ratedOf rateOf rateRanges noLimits firstBad limitsOf last linesOf runOps factorLines rowOf invertsZero within lineOf
+    ratedOf rateOf rateRanges noLimits firstBad limitsOf last linesOf bentIn runOps factorLines rowOf invertsZero within lineOf
     factorRow addRow addcRow mulcRow mulRow powRow invRow apart isSingle only
     codelistOf ratable wellFormedOps
     isValid bothValid kept sumOf negOf timesOf endsProduct productOf endsInverse inverseOf hullOf

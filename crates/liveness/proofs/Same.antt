@@ -24,13 +24,13 @@ use Rattle.rules.specs.declared.Refusal.{Refusal}
 use Rattle.rules.specs.declared.Refusal.the-variants.{RangeCount, BadRange, Divisor, Overflow}
 use Rattle.rules.specs.Table.{Row, addRow, addcRow, mulcRow, mulRow, powRow, invRow, lineOf}
 use Rattle.rules.specs.Run as Run
-use Rattle.rules.specs.Run.{noLine, rowOf, invertsZero, within, Lines, runOps, factorLines, operations, linesOf}
+use Rattle.rules.specs.Run.{noLine, rowOf, invertsZero, within, Lines, runOps, factorLines, alwaysBent, operations, linesOf}
 use Rattle.rules.specs.Rate.{limitsOf, rated, refused, pairs, finished, firstBad, rateRanges, rateOf}
 use Rattle.rules.specs.Rate as Rate
 use Rattle.rules.specs.Exact.{Point, Jet, noJet, exactNext, factorJets, exactOps, exactLines, lastJet, premiumOf}
 use Rattle.rules.specs.Exact.{using1, using2, addJet, mulJet, addcJet, mulcJet, powJet, invert}
 use Rattle.exact.specs.Rat.{recip}
-use Rattle.rules.proofs.Accepted.{pairs-length, not-rated}
+use Rattle.rules.proofs.Accepted.{pairs-length, not-rated, factors-length}
 use Rattle.liveness.specs.Used.{lines}
 use Rattle.liveness.specs.Tidied.{kept, picked, position, renumbered, tidied}
 use Rattle.liveness.specs.Promises.{AtUsed, refusalAt}
@@ -192,11 +192,6 @@ lines-run (o ∷ os) ls = go (invertsZero (o .op) ls) (within l) (lines-run os (
     go false true ih = ih
     go false false ih = refl
 
-lines-length : (i : ℕ) (rs : List Range) → length (factorLines i rs) ≡ length rs
-unfolding factorLines
-lines-length i [] = refl
-lines-length i (r ∷ rs) = ap suc (lines-length (suc i) rs)
-
 last-line : (ls : List Line) (l : Line) → Rate.last (ls ++ (l ∷ [])) ≡ l
 unfolding Rate.last
 last-line [] l = refl
@@ -239,10 +234,10 @@ module _ (c : Codelist) (w : WellFormed c) where
   run-same rs n = go (run noLine rowStep (operations c) ls) refl
     where
       ls : List Line
-      ls = factorLines 0 rs
+      ls = factorLines (alwaysBent c) 0 rs
 
       count : length ls ≡ c .factors
-      count = lines-length 0 rs ∙ n
+      count = factors-length (alwaysBent c) 0 rs ∙ n
 
       ended : (d : Codelist) {x : Ran Line Kind} → run noLine rowStep (operations d) ls ≡ x
           → finished (c .factors) (runOps (operations d) ls) ≡ finished (c .factors) (linesOfRan x)

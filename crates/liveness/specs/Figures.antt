@@ -30,7 +30,7 @@ use Rattle.rules.specs.declared.Refusal.the-variants.{NoCodelist, Divisor}
 use Rattle.rules.specs.Sets.{apart, isSingle, only}
 use Rattle.rules.specs.Table.{factorRow, addRow, addcRow, mulcRow, mulRow, powRow, invRow, lineOf}
 use Rattle.rules.specs.Run as Run
-use Rattle.rules.specs.Run.{rowOf, invertsZero, runOps, factorLines, linesOf}
+use Rattle.rules.specs.Run.{rowOf, invertsZero, runOps, factorLines, bentIn, linesOf}
 use Rattle.rules.specs.Rate.{last, limitsOf, refused, firstBad, rateRanges, rateOf}
 use Rattle.rules.specs.Figures.{_to_, slopes, limits}
 use Rattle.range.specs.Limit.{zeroRange}
@@ -172,7 +172,7 @@ computed f = record {
 }
 
 pub figures-right : map computed figures ≡ figures
-unfolding rateOf rateRanges firstBad limitsOf last linesOf runOps factorLines rowOf invertsZero Run.within lineOf
+unfolding rateOf rateRanges firstBad limitsOf last linesOf bentIn runOps factorLines rowOf invertsZero Run.within lineOf
     factorRow addRow addcRow mulcRow mulRow powRow invRow apart isSingle only
     ratable wellFormedOps
     isValid bothValid kept sumOf negOf timesOf endsProduct productOf endsInverse inverseOf hullOf

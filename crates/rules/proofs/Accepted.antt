@@ -85,7 +85,7 @@ run-grows (o ∷ ops) ls ms e =
     let next = lineOf (rowOf (o .op) ls) in
     omega (arith, run-grows ops (ls ++ (next ∷ [])) ms (at-turn o ops ls ms e .1), length-append ls (next ∷ []))
 
-factors-length : (f i : ℕ) (rs : List Range) → length (factorLines f i rs) ≡ length rs
+pub factors-length : (f i : ℕ) (rs : List Range) → length (factorLines f i rs) ≡ length rs
 unfolding factorLines
 factors-length f i [] = refl
 factors-length f i (r ∷ rs) = ap suc (factors-length f (suc i) rs)

@@ -20,7 +20,8 @@ use Rattle.range.specs.Sums.{at}
 use Rattle.rules.specs.declared.Line.{Line}
 use Rattle.rules.specs.declared.Limits.{Limits}
 use Rattle.rules.specs.Sets.{none, allOf}
-use Rattle.rules.specs.Table.{factorRow, addRow, addcRow, mulcRow, mulRow, powRow, invRow, lineOf}
+use Rattle.rules.specs.Formula.{given, sticky}
+use Rattle.rules.specs.Table.{extended, factorRow, addRow, addcRow, mulcRow, mulRow, powRow, invRow, lineOf}
 use Rattle.rules.specs.Run.{noLine, line, rowOf, through, runOps, factorLines, bentIn, alwaysBent, operations, linesOf}
 use Rattle.rules.specs.Rate.{last, limitsOf, pairs}
 use Rattle.rules.specs.Exact.{Point, Jet}
@@ -63,13 +64,16 @@ module _ (c : Codelist) (y : c .year ≡ Y2014) where
     next = λ o {os} {ls} f r t. bent-next (c .factors) (w .factors .0) (w .factors .1) ls (λ i e. along-line (BentLine (c .factors)) i e r) o f;
   }
 
+-- a lift to the set itself
+pub not-lifted : (e : Range) {b s : ℕ} → b ≡ s → sticky (extended (given e) b s) ≡ e
+not-lifted e {b} {s} h = rw (eq-eqb b s h)
+
 pub all-bent : AllBentRating
 unfolding limitsOf
 all-bent c xs l y e =
     let A = accepted c xs l e in
     let b = last-line (BentLine (c .factors)) (bent-kept c y (A .codelist)) A (λ a k. bent-first c y a (at (pairs xs) a) k) .nonlinear in
-    let same = eq-eqb (last (A .lines) .nonlinear) (allOf (c .factors)) b in
-    rw (A .limits) (record { nonlinear = b; full = rw same })
+    rw (A .limits) (record { nonlinear = b; full = not-lifted (last (A .lines) .spectrum) b })
 
 pub year-sets : YearSets
 year-sets = record {
