@@ -163,12 +163,13 @@ fn fresh(e: Engine) {
     rate_two(e, 0, 10_000);
 }
 
-// Refusals 1 to 4.
+// Refusals 1 to 4 and 17.
 fn refused_first(e: Engine) -> Engine {
     let long = [b'\n'; 4097];
     let e = keeps(e, &long);
     let e = keeps(e, b"");
     let e = keeps(e, b"factors\t9\ninv\t1\n");
+    let e = keeps(e, b"factors\t1\t2015\ninv\t1\n");
     keeps(e, b"factors\t2\n")
 }
 
