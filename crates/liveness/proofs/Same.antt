@@ -14,6 +14,7 @@ use Rattle.codelist.specs.declared.Entry.{Entry}
 use Rattle.codelist.specs.declared.Op.{Op}
 use Rattle.codelist.specs.declared.Op.the-variants.{Add, Mul, AddC, MulC, Pow, Inv}
 use Rattle.codelist.specs.Codelist.{WellFormed}
+use Rattle.codelist.specs.Load.{codelistOf}
 use Rattle.codelist.proofs.Ratable.{decides, well-formed-ratable}
 use Rattle.range.specs.declared.Range.{Range}
 use Rattle.range.specs.Arithmetic.{holdsZero}
@@ -230,7 +231,7 @@ module _ (c : Codelist) (w : WellFormed c) where
 
   -- the lines are run
   run-same : (rs : List Range) → length rs ≡ c .factors → Same (finished (c .factors) (linesOf c rs)) (finished (c .factors) (linesOf (tidied c) rs))
-  unfolding linesOf
+  unfolding linesOf tidied codelistOf
   run-same rs n = go (run noLine rowStep (operations c) ls) refl
     where
       ls : List Line
