@@ -1,8 +1,8 @@
 """The rules of paper 01 once more, and of 02 as its requests land, over unlimited whole numbers and exact fractions, for clarity and not speed.
 
-sheet.py   the text of a sheet, refusals 1 to 7 and 15
+sheet.py   the text of a sheet, refusals 1 to 7, 15 and 17
 ranges.py  range arithmetic
-rating.py  sets, bends, the table of the lines, refusals 8 to 12
+rating.py  sets, bends, the table of the lines of either year, refusals 8 to 12
 exact.py   the exact side, and what a result promises of it
 text.py    the program `rate`: from the bytes of its input to the bytes it prints
 tidy.py    02, request 1: tidied sheets, and the program `tidy`

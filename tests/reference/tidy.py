@@ -1,6 +1,6 @@
 """02, request 1, "Tidied sheets for the tariff book": a sheet without its dead lines, the call that writes it, and the program `tidy`."""
 from .outcome import Refusal, Refused, refuse
-from .sheet import MOST_BYTES, REFERENCES, Loading, Operation, Sheet, load, sheet_text
+from .sheet import MOST_BYTES, REFERENCES, Loading, Operation, load, sheet_text
 from .text import printed
 
 
@@ -42,7 +42,11 @@ class Tidying:
 
     def tidied(self, sheet):
         kept = self.kept(sheet)
-        return Sheet(sheet.factors, tuple(self.renumbered(operation_at(sheet, line), kept) for line in kept if line > sheet.factors))
+        return sheet._replace(operations=tuple(self.renumbered(operation_at(sheet, line), kept) for line in kept if line > sheet.factors))
+
+    def tidied_text(self, text, loading=Loading):
+        """The bytes of the tidied sheet. 02, request 9: "A tidied sheet names the year only for 2014", and so does every sheet that is written."""
+        return sheet_text(self.tidied(load(text, rules=loading)))
 
 
 def last_line(sheet):
@@ -61,7 +65,7 @@ def tidy(text, buffer, rules=Tidying, loading=Loading):
     their values, a refused call touches none".
     """
     try:
-        tidied = sheet_text(rules().tidied(load(text, rules=loading)))
+        tidied = rules().tidied_text(text, loading)
         if len(buffer) < len(tidied):
             refuse(13, 0)
     except Refused as refused:
