@@ -6,7 +6,8 @@ tests/compare.py --binary PATH [--tidy PATH [--tidy-into PATH]] [--fleet PATH [-
         [--seed N] [--count N] [--dead-lines N] [--fleets N] [--cuts N] [--pairs N] [--jobs N]
     `rate`: the figures of the papers, the examples, inputs that two refusals fit, and random ones: every printed byte; the bends beside those
     with each square rounded (02, request 2) and those without special cases of a product (request 4), which must be no narrower; for a share of the
-    accepted random ones also the exact premium and its derivatives, as fractions, at a point inside the ranges
+    accepted random ones also the exact premium and its derivatives, as fractions, at a point inside the ranges; and for a share of all that come to
+    a line the same sheet in the other year (request 9), with the same value, slopes and depends-on set where both are accepted
     `tidy`: the sheets of all these, and sheets with dead lines put in (dead_lines.py): every printed byte, and `rate` of the tidied sheet
     `tidy_into`: a share of them, with buffers that are too short, just long enough and longer: the outcome and every byte of the buffer
     `fleet`: lists of boats (fleets.py), the figures of the request and the example: every printed byte
@@ -38,13 +39,14 @@ import cuts
 import dead_lines
 import fleets
 import pairs
-from cutting import CutComparison
+import years
+from cutting import CutComparison, read, sets_of_lines
 from errors import (
-    ERRORS, LOADING_ERRORS, SPECIAL_ERRORS, SPECIAL_STEPS, STEPS, ZERO_FIELD, CasesNotApplied, SquaresRoundedEachInCross, SquaresRoundedEachInSq,
-    uncounted)
+    ERRORS, LOADING_ERRORS, SPECIAL_ERRORS, SPECIAL_STEPS, STEPS, YEAR_ERRORS, YEAR_LOADING_ERRORS, YEAR_STEPS, ZERO_FIELD, AbsentEarlier,
+    CasesNotApplied, SquaresRoundedEachInCross, SquaresRoundedEachInSq, uncounted)
 from figures import APART, FIGURES, LIMITED, REPORTED, TIDIED
 from fleet_page import FleetComparison
-from generate import box_text, case
+from generate import box_text, case, input_text
 from orders import ORDERS, cases, orders_of
 from reference.cut import cut_printed
 from reference.exact import TooLarge, broken_promises
@@ -52,16 +54,17 @@ from reference.fleet import Fleet, fleet_printed
 from reference.outcome import Refusal
 from reference.ranges import UNIT, Range
 from reference.rating import Result
-from reference.sheet import load
+from reference.sheet import EARLIER, PRESENT, load, sheet_text_with
 from reference.sisters import sisters_printed
-from reference.text import printed, run
+from reference.text import parted, printed, run
 from reference.tidy import tidy_printed
 from sister_boats import SistersComparison
-from tally import DIFFERENCES_SHOWN, Tally, difference
+from tally import DIFFERENCES_SHOWN, Tally, difference, print_of, unlike
 from tidying import TidyComparison
 
 EXAMPLES = Path(__file__).resolve().parent.parent / "examples"
 EXACT_SHARE = 0.5
+OTHER_YEAR_SHARE = 0.3
 ORDER_ROUNDS = 3  # inputs for each order
 FLEET_ROUNDS = 3  # inputs for each way in which a list of boats is refused, and for each of its edges
 CUT_ROUNDS = 2  # inputs for each way in which a first line is refused, for each order behind one, and for each edge
@@ -72,8 +75,10 @@ SPECIAL_CASES = ["mul, case 4", "mul, case 7", "mul, case 10"]
 # Refusal 10 is not among them: the program loads a sheet before it rates.
 RULES = [
     "1: sheet over 4,096 bytes", "1: input over 8,192 bytes",
-    "2: no first line", "2: first line's form", "2: operation line's form", "2: final byte 10 missing",
+    "2: no first line", "2: first line's form", "2: a third field that is no numeral", "2: a fourth field", "2: operation line's form",
+    "2: final byte 10 missing",
     "3: factors below 1", "3: factors above 8",
+    "17: a year before 2014", "17: the year between", "17: a year after 2016",
     "4: codelist line beyond the 64th", "4: no operation line",
     "5: reference below 1", "5: reference not earlier",
     "6: exponent below 2", "6: exponent above 8",
@@ -81,7 +86,7 @@ RULES = [
     "8: no box", "8: form", "8: number",
     "9: low end above high end", "9: low end beyond the limit", "9: high end beyond the limit",
     "11: inverse of a range with 0",
-    *(f"12 by {step} alone" for step in STEPS),
+    *(f"12 by {step} alone" for step in STEPS + YEAR_STEPS),
     "line add", "line addc", "line mulc", "line mul", "line pow", "line inv",
     "an end at the limit itself", "a negative low end rounded",
     "inverse of a positive range", "inverse of a negative range",
@@ -104,13 +109,30 @@ RULES = [
     "exact: first derivative 0 outside the depends-on set", "exact: second derivatives 0 outside the bent set",
     "exact: v'Hv inside the bend", "exact: v'Hv inside the full bend",
     "exact: same premium elsewhere", "exact: same first derivatives elsewhere",
-    *(f"exact: a sheet with {case}" for case in SPECIAL_CASES), "exact: v'Hv in the direction of an eigenvector",
+    *(f"exact: a sheet with {case}" for case in SPECIAL_CASES), "exact: v'Hv in the direction of an eigenvector", "exact: a sheet of 2014",
+]
+
+# 02, request 9. What 2016 would do is told by its sets, which a line of 2014 has not.
+HULLED, SPECIAL = "join by hull", "a special case"
+YEAR_RULES = [
+    *years.rules_of("rate"),
+    *(f"2014: line {name}" for name in ("add", "addc", "mulc", "mul", "pow", "inv")),
+    "2014: Λs, n = 1", "2014: Λs, n > 1", "2014: Λt, n = 1", "2014: Λt, n > 1, root above 0", "2014: Λt, n > 1, root 0",
+    *(f"2014: {rule}" for rule in (
+        "accepted, a plain sum in `add` where 2016 would have a hull", "accepted, a plain sum in `mul` where 2016 would have a hull",
+        "accepted, a product that is a special case in 2016", "refused with 12 at a plain sum where 2016 would have a hull",
+        "refused with 12 at a product that is a special case in 2016", "accepted, a line on one factor of more bent",
+        "accepted, the result not bent in 2016", "accepted, a factor that does not count")),
+    *(f"both years: {rule}" for rule in (
+        "accepted, and all else is the same", "another bend", "the same bend", "a wider full bend in 2014", "the same full bend",
+        "another bent set", "the same bent set", "refused alike", "12 in 2014 only", "12 in 2016 only, by A, B or C",
+        "12 in 2014 at an earlier line", "2016 named and not named print the same")),
 ]
 
 
 class Comparison(Tally):
-    rules = RULES + ORDERS
-    errors = ERRORS + SPECIAL_ERRORS + LOADING_ERRORS
+    rules = RULES + YEAR_RULES + ORDERS
+    errors = ERRORS + SPECIAL_ERRORS + YEAR_ERRORS + LOADING_ERRORS + YEAR_LOADING_ERRORS + [AbsentEarlier]
 
     def __init__(self, binary):
         super().__init__()
@@ -143,11 +165,17 @@ class Comparison(Tally):
                 complaint += self.exact_complaint(outcome, rng)
         else:
             complaint += self.note_orders(text, outcome.answer)
+        self.met.update(years.met("rate", text, outcome.answer))
         if comes_to_lines(outcome):
-            self.try_errors(text, ours)
+            self.try_errors(text, ours, outcome.sheet.year)
             complaint += self.rounding_complaint(text, outcome) + self.special_complaint(text, outcome)
-        if ZERO_FIELD.search(text):
-            self.catch_errors(ours, lambda wrong: printed(run(text, wrong.rules, loading=wrong).answer), LOADING_ERRORS)
+            if outcome.sheet.year == EARLIER:
+                self.note_earlier(outcome)
+            if rng is None or rng.random() < OTHER_YEAR_SHARE:
+                complaint += self.other_year_complaint(text, outcome)
+        loading = LOADING_ERRORS if ZERO_FIELD.search(text) else []
+        loading = loading + (YEAR_LOADING_ERRORS if years.THIRD_FIELD.match(text) else [AbsentEarlier])
+        self.catch_errors(ours, lambda wrong: printed(run(text, wrong.rules, loading=wrong).answer), loading)
         self.judge(name, text, complaint)
         return outcome
 
@@ -160,6 +188,8 @@ class Comparison(Tally):
             return ""
         for case in self.cases:
             self.note(f"exact: a sheet with {case}")
+        if outcome.sheet.year == EARLIER:
+            self.note("exact: a sheet of 2014")
         return "".join(f"--- does not hold of the reference's result: {what}\n" for what in broken)
 
     def note_orders(self, text, refusal):
@@ -211,12 +241,75 @@ class Comparison(Tally):
             return f"--- not narrower than without special cases\n{printed(without).decode()}"
         return ""
 
-    def try_errors(self, text, ours):
+    def note_earlier(self, outcome):
+        """What 2016 would do otherwise in a sheet of 2014."""
+        sheet, _, answer = outcome
+        unlike_present = present_lines(sheet)
+        if isinstance(answer, Refusal):
+            if answer.number == 12 and HULLED in unlike_present[answer.place]:
+                self.note("2014: refused with 12 at a plain sum where 2016 would have a hull")
+            if answer.number == 12 and SPECIAL in unlike_present[answer.place]:
+                self.note("2014: refused with 12 at a product that is a special case in 2016")
+            return
+        found = {(sheet.operations[line - sheet.factors - 1].name, sort) for line, sorts in unlike_present.items() for sort in sorts}
+        depends, bent = sets_of_lines(sheet._replace(year=PRESENT))[-1]
+        conditions = {
+            "2014: accepted, a plain sum in `add` where 2016 would have a hull": ("add", HULLED) in found,
+            "2014: accepted, a plain sum in `mul` where 2016 would have a hull": ("mul", HULLED) in found,
+            "2014: accepted, a product that is a special case in 2016": ("mul", SPECIAL) in found,
+            "2014: accepted, a line on one factor of more bent": len(depends) == 1 < sheet.factors and bent,
+            "2014: accepted, the result not bent in 2016": not bent,
+            "2014: accepted, a factor that does not count": len(depends) < sheet.factors,
+        }
+        self.met.update(rule for rule, holds in conditions.items() if holds)
+
+    def other_year_complaint(self, text, outcome):
+        """The same sheet in the other year: what the program prints of it, and that it is the same but for bends and bent sets where both are accepted. A
+        sheet of 2016 that names no year is printed the same with it named."""
+        sheet, _, answer = outcome
+        other = EARLIER if sheet.year == PRESENT else PRESENT
+        behind = b"box\n" + parted(text)[1]
+        others = sheet_text_with((other,), sheet) + behind
+        theirs = run(others).answer
+        got = print_of(self.binary, others)
+        complaint = unlike(got, printed(theirs))
+        complaint = complaint and f"--- the same sheet in {other}\n{complaint}"
+        self.note_both(*((answer, theirs) if sheet.year == EARLIER else (theirs, answer)))
+        got = read(got)
+        if isinstance(got, Result) and isinstance(answer, Result) and got[:3] != answer[:3]:
+            complaint += f"--- another value, slope or depends-on set in {other}\n"
+        if sheet.year == PRESENT and not years.THIRD_FIELD.match(text):
+            self.note("both years: 2016 named and not named print the same")
+            complaint += difference(self.binary, sheet_text_with((PRESENT,), sheet) + behind, printed(answer))
+        return complaint
+
+    def note_both(self, earlier, present):
+        """What a sheet comes to in 2014 and in 2016."""
+        refused = [isinstance(answer, Refusal) for answer in (earlier, present)]
+        conditions = {
+            "both years: refused alike": all(refused) and earlier == present,
+            "both years: 12 in 2014 only": refused == [True, False],
+            "both years: 12 in 2016 only, by A, B or C": refused == [False, True],
+            "both years: 12 in 2014 at an earlier line": all(refused) and earlier.place < present.place,
+        }
+        if not any(refused):
+            wider = earlier.full != present.full and earlier.full.low <= present.full.low and present.full.high <= earlier.full.high
+            conditions |= {
+                "both years: accepted, and all else is the same": earlier[:3] == present[:3],
+                f"both years: {'the same' if earlier.bend == present.bend else 'another'} bend": True,
+                "both years: a wider full bend in 2014": wider,
+                "both years: the same full bend": earlier.full == present.full,
+                f"both years: {'the same' if earlier.bent == present.bent else 'another'} bent set": True,
+            }
+        self.met.update(rule for rule, holds in conditions.items() if holds)
+
+    def try_errors(self, text, ours, year):
         """Which wrong rules this input tells from the right ones."""
         for step in self.passing:
             if printed(run(text, uncounted(step)).answer) != ours:
                 self.note(f"12 by {step} alone")
-        self.catch_errors(ours, lambda wrong: printed(run(text, wrong).answer), ERRORS + SPECIAL_ERRORS if self.cases else ERRORS)
+        errors = ERRORS + (SPECIAL_ERRORS if self.cases else []) + (YEAR_ERRORS if year == EARLIER else [])
+        self.catch_errors(ours, lambda wrong: printed(run(text, wrong).answer), errors)
 
     def add(self, other):
         super().add(other)
@@ -224,7 +317,7 @@ class Comparison(Tally):
 
     def conclude(self):
         """Prints how often each rule was met."""
-        self.show(RULES)
+        self.show(RULES + YEAR_RULES)
         for kind in dict.fromkeys(order.split(":")[0] for order in ORDERS):
             counts = [self.met[order] for order in ORDERS if order.split(":")[0] == kind]
             print(f"{min(counts):9}  {kind}: the least often met of {len(counts)}")
@@ -234,6 +327,21 @@ class Comparison(Tally):
 def comes_to_lines(outcome):
     """Whether the ranges were accepted, so that an operation decides the answer."""
     return isinstance(outcome.answer, Result) or outcome.answer.number in (11, 12)
+
+
+def present_lines(sheet):
+    """For each operation line what it would be in 2016, by the sets that it would have there: a join by hull, a special case of a product."""
+    sets = sets_of_lines(sheet._replace(year=PRESENT))
+    found = {}
+    for line, (name, numbers) in enumerate(sheet.operations, sheet.factors + 1):
+        found[line] = set()
+        if name in ("add", "mul"):
+            (depends, bent), (others_depend, others_bent) = (sets[i - 1] for i in numbers)
+            if name == "mul" and len(depends) == len(others_depend) == 1 and depends != others_depend and (bent or others_bent):
+                found[line] = {SPECIAL}
+            elif bent and others_bent and not bent & others_bent:
+                found[line] = {HULLED}
+    return found
 
 
 def narrower(answer, wider):
@@ -265,6 +373,15 @@ def fixed_inputs(seed):
     for number in range(ORDER_ROUNDS):
         for name, text in cases(random.Random(f"{seed}/order/{number}")):
             yield f"'{name}', {number}", text, None
+        rng = random.Random(f"{seed}/year/{number}")
+        for name, text in years.cases(rng, unnamed(rng)):
+            yield f"'{name}', {number}", text, None
+
+
+def unnamed(rng):
+    """An accepted input of a sheet that names no year."""
+    ranges = [Range(0, rng.randint(1, UNIT)) for _ in range(rng.randint(1, 4))]
+    return input_text(cuts.turned(rng, ranges).sheet(), ranges)
 
 
 def tidy_inputs(seed, count, share):

@@ -12,6 +12,8 @@ from reference.cut import MOST_DEPTH
 from reference.ranges import LIMIT, UNIT, Range
 from reference.sheet import MOST_BYTES, MOST_FACTORS, MOST_LINES, Operation, Sheet, sheet_text
 from reference.text import MOST_INPUT
+from years import cases as year_cases
+from years import dated
 
 KEPT = Sheet(1, (Operation("addc", (1, 0)),))  # the premium is the factor itself
 SUM = Sheet(2, (Operation("add", (1, 2)),))
@@ -333,7 +335,7 @@ KINDS = [
 def case(rng):
     """A kind's name and an input of it."""
     kind = rng.choices([kind for kind, _ in KINDS], [weight for _, weight in KINDS])[0]
-    return f"cut, {kind.__name__}", kind(rng)
+    return f"cut, {kind.__name__}", dated(rng, kind(rng))
 
 
 # ---- 16, beside other refusals
@@ -443,7 +445,13 @@ def largest_cases(rng):
     yield "cut, the largest", cut_text(MOST_DEPTH, growing.sheet(), growing.ranges)
 
 
+def dated_cases(rng):
+    """A class for each field that can stand behind the number of factors."""
+    for name, text in year_cases(rng, narrowed(rng)):
+        yield f"cut, {name}", text
+
+
 def cases(rng):
-    """An input for each way of being refused, for each order of two refusals, and for each edge."""
-    for kind in (sixteen_cases, ordered_cases, line_cases, length_cases, nine_cases, largest_cases):
+    """An input for each way of being refused, for each order of two refusals, for each edge, and for each field of the sheet's first line."""
+    for kind in (sixteen_cases, ordered_cases, line_cases, length_cases, nine_cases, largest_cases, dated_cases):
         yield from kind(rng)

@@ -10,15 +10,16 @@ from fractions import Fraction
 from functools import lru_cache
 from typing import NamedTuple, Union
 
+import years
 from cuts import MISSPELT, OUTSIDE
-from errors import CUT_ERRORS, FIRST_LINE_ERRORS, CutTowardZero, HighestOnEqualWidth
+from errors import CUT_ERRORS, FIRST_LINE_ERRORS, YEAR_LOADING_ERRORS, CutTowardZero, HighestOnEqualWidth
 from orders import BOX_COUNT, BOX_FORM, DIVISOR, INPUT, PAST, TOO_FAR, TURNED, held, number_of
 from reference.cut import DEPTH_LINE, MOST_DEPTH, Cutting, rated
 from reference.exact import TooLarge, broken_at, some_point
 from reference.outcome import Refusal
 from reference.ranges import LIMIT, UNIT, Range
 from reference.rating import Result
-from reference.sheet import MOST_BYTES, MOST_FACTORS, MOST_LINES, REFERENCES
+from reference.sheet import EARLIER, MOST_BYTES, MOST_FACTORS, MOST_LINES, PRESENT, REFERENCES
 from reference.text import MOST_INPUT, parted, printed
 from reference.tidy import last_line
 from tally import Tally, difference, print_of, unlike
@@ -28,7 +29,7 @@ DEEPER_SHARE = 0.5  # of the classes that are rated to a depth below 6: cut once
 MANY_SHARE = 0.25  # of all inputs: by `cut_many`, too
 
 HALVES = ("lower", "upper")
-LOADING = (*range(1, 8), 15)
+LOADING = (*range(1, 8), 15, 17)
 SIXTEEN = "16"
 ENDS = [f"{end} end of {what}" for what in ("the value", "a slope", "the bend") for end in ("low", "high")]
 
@@ -85,6 +86,13 @@ EDGE_RULES = [
     "cut: 4,096 bytes of sheet", "cut: 4,097 bytes of sheet", "cut: 64 codelist lines with 8 factors, depth 6",
 ]
 
+YEAR_RULES = years.rules_of("cut") + [
+    *(f"cut: 2014, accepted, depth {depth}" for depth in range(MOST_DEPTH + 1)),
+    *(f"cut: 2014, {rule}" for rule in (
+        "another bend or bent set than in 2016", "refused, and accepted in 2016", "one half alone refused, and none in 2016",
+        "uncut refused with 12, and accepted where it is cut", "exact")),
+]
+
 
 @lru_cache(maxsize=4096)
 def remembered(sheet, ranges):
@@ -129,8 +137,8 @@ def paths(part):
 
 
 class CutComparison(Tally):
-    rules = CLASS_RULES + HALF_RULES + LIMIT_RULES + REFUSAL_RULES + EDGE_RULES
-    errors = CUT_ERRORS + FIRST_LINE_ERRORS
+    rules = CLASS_RULES + HALF_RULES + LIMIT_RULES + REFUSAL_RULES + EDGE_RULES + YEAR_RULES
+    errors = CUT_ERRORS + FIRST_LINE_ERRORS + YEAR_LOADING_ERRORS
 
     def __init__(self, cut, cut_many=None):
         super().__init__()
@@ -141,7 +149,7 @@ class CutComparison(Tally):
 
     def least(self, rule):
         """The random classes meet what a class can have often; all else has inputs of its own, which are made a few times."""
-        return 3 if rule in REFUSAL_RULES else 2 if rule in EDGE_RULES else 5
+        return 3 if rule in REFUSAL_RULES else 2 if rule in EDGE_RULES + YEAR_RULES else 5
 
     def compare(self, name, text, expected=None):
         rng = random.Random(text)
@@ -159,6 +167,10 @@ class CutComparison(Tally):
             complaint += difference(self.cut_many, text, ours, str(times))
         complaint += self.order_complaint(text, answer)
         self.note_edges(text, answer)
+        sheet = parted(RIGHT.first_line(text)[1])[0]
+        self.met.update(years.met("cut", sheet, answer))
+        if years.THIRD_FIELD.match(sheet):
+            self.catch_errors(ours, lambda wrong: printed(loading_by(wrong).run(text)), YEAR_LOADING_ERRORS)
         if comes_to_parts(answer):
             complaint += self.class_complaint(rng, text, answer, read(got))
             self.catch_errors(ours, lambda wrong: printed(wrong(remembered).run(text)), CUT_ERRORS)
@@ -238,6 +250,8 @@ class CutComparison(Tally):
         self.note_class(sheet, whole)
         if whole.halves:
             self.note_halves(sheet, whole, uncut)
+        if sheet.year == EARLIER:
+            self.note_earlier(sheet, whole, uncut)
         complaint = sets_complaint(sheet, got) if isinstance(got, Result) else ""
         if isinstance(uncut, Result):
             self.note("cut: uncut accepted, and so cut")
@@ -292,6 +306,8 @@ class CutComparison(Tally):
         except TooLarge:
             return ""
         self.note(f"cut: exact: {where}")
+        if sheet.year == EARLIER:
+            self.note("cut: 2014, exact")
         if isinstance(uncut, Refusal):
             self.note("cut: exact: where the uncut ranges are refused")
         return "".join(f"--- does not hold of the reference's result: {what}\n" for what in broken)
@@ -367,6 +383,20 @@ class CutComparison(Tally):
         if not any(refused):
             self.note_ends(*answers)
 
+    def note_earlier(self, sheet, whole, uncut):
+        """A class of 2014, beside what it would come to in 2016."""
+        present = parted_class(sheet._replace(year=PRESENT), whole.ranges, whole.depth)
+        accepted, accepted_now = (isinstance(answer, Result) for answer in (whole.answer, present.answer))
+        refused, refused_now = (sum(isinstance(half.answer, Refusal) for half in part.halves) for part in (whole, present))
+        conditions = {
+            f"cut: 2014, accepted, depth {whole.depth}": accepted,
+            "cut: 2014, another bend or bent set than in 2016": accepted and accepted_now and whole.answer != present.answer,
+            "cut: 2014, refused, and accepted in 2016": not accepted and accepted_now,
+            "cut: 2014, one half alone refused, and none in 2016": refused == 1 and whole.halves and not refused_now,
+            "cut: 2014, uncut refused with 12, and accepted where it is cut": isinstance(uncut, Refusal) and uncut.number == 12 and accepted,
+        }
+        self.met.update(rule for rule, holds in conditions.items() if holds)
+
     def note_both_refused(self, lower, upper):
         if lower == upper:
             self.note("cut: both halves refused alike")
@@ -429,8 +459,15 @@ def read(text):
     return answer if printed(answer) == text else None
 
 
-def sets_of(sheet):
-    """The depends-on and the bent set of a sheet by 01's table: no ranges are asked for."""
+def loading_by(wrong):
+    """The right rules but for those of loading."""
+    rules = Cutting(remembered)
+    rules.loading = wrong
+    return rules
+
+
+def sets_of_lines(sheet):
+    """The depends-on and the bent set of each line by 01's table, and by request 9 for 2014: no ranges are asked for."""
     lines = [(frozenset([a]), frozenset()) for a in range(sheet.factors)]
     for name, numbers in sheet.operations:
         depends, bent = lines[numbers[0] - 1]
@@ -438,7 +475,11 @@ def sets_of(sheet):
             others = lines[numbers[1] - 1]
             depends, bent = depends | others[0], bent | others[1]
         lines.append((depends, depends if name in ("mul", "pow", "inv") else bent))
-    return lines[-1]
+    return [(depends, frozenset(range(sheet.factors))) for depends, _ in lines] if sheet.year == EARLIER else lines
+
+
+def sets_of(sheet):
+    return sets_of_lines(sheet)[-1]
 
 
 def sets_complaint(sheet, got):

@@ -3,8 +3,9 @@ from generate import input_text, loaded, some_operation
 from reference.outcome import Refused
 from reference.ranges import LIMIT, UNIT, Range
 from reference.rating import rate
-from reference.sheet import MOST_LINES, REFERENCES, Operation, Sheet, load, sheet_text
+from reference.sheet import MOST_LINES, REFERENCES, Operation, load, sheet_text
 from reference.tidy import Tidying, last_line, operation_at
+from years import named
 
 USED = Tidying().used
 TRIES = 6  # random lines that are tried before one is made for its refusal
@@ -17,7 +18,7 @@ def inserted(sheet, place, name, *numbers):
         return Operation(operation.name, tuple(i + (i >= place) for i in operation.numbers[:count]) + operation.numbers[count:])
     at = place - sheet.factors - 1
     before, after = sheet.operations[:at], sheet.operations[at:]
-    return Sheet(sheet.factors, before + (Operation(name, numbers),) + tuple(map(moved, after)))
+    return sheet._replace(operations=before + (Operation(name, numbers),) + tuple(map(moved, after)))
 
 
 def some_place(rng, sheet):
@@ -106,4 +107,4 @@ def case(rng):
     given = loaded(rng, (4, 2, 5, 2, 1))
     kind = rng.choices((harmless, refused, unlooked), (5, 3, 2))[0]
     ranges = [Range(*given.ends[k:k + 2]) for k in range(0, len(given.ends), 2)]
-    return f"dead lines, {kind.__name__}", input_text(kind(rng, given.sheet, given.ends), ranges)
+    return f"dead lines, {kind.__name__}", named(rng, input_text(kind(rng, given.sheet, given.ends), ranges))

@@ -2,9 +2,10 @@
 
 Of rating, the first five are the errors that 01 names at its end, then come the results "From the buyer" wants turned down, then other
 readings of sentences that decide a result, near misses of 02's request 2, the sum of squares, of its request 4: of which products are
-special cases, of their bends, and of what is refused; and of its request 8, of a division by a sum and of the limit before it. Those of loading are near misses of request 5: of which lines are refused with 15, of its
-number and place, and of when it comes. Those of tidying (request 1) are near misses of what is used, what is kept and how it is renumbered; those
-of the fleet page (request 3), of what a boat is, of what is counted, summed and compared, and of which lists are taken; those of classes cut finer
+special cases, of their bends, and of what is refused; of its request 8, of a division by a sum and of the limit before it; and of its request 9, of the bends and sets of 2014. Those of loading are near
+misses of request 5: of which lines are refused with 15, of its number and place, and of when it comes; and of request 9: of which years are taken, of
+what else stands in a third field, and of when 17 comes. Those of tidying (request 1) are near misses of what is used, what is kept, how it is renumbered
+and when the year is named; those of the fleet page (request 3), of what a boat is, of what is counted, summed and compared, and of which lists are taken; those of classes cut finer
 (request 6), of which range is cut, where and how often, of what is made of the two halves, of which depths are taken, and of the first line; those of
 sister boats (request 7), of which products are summed and how the sums are rounded, of which boats are taken and when that is asked, and of the boat
 lines.
@@ -14,10 +15,11 @@ from math import isqrt
 
 from reference.cut import DEPTH_LINE, Cutting
 from reference.fleet import MOST_INPUT, RECORD, Fleet, rated
-from reference.outcome import Refusal, Refused, refuse
+from reference.outcome import Refusal, Refused, refuse, unnoted
 from reference.ranges import LIMIT, UNIT, ZERO, PastLimit, Range
 from reference.rating import SPECIAL_LIMIT, Result, Rules, ranges_of
-from reference.sheet import MOST_BYTES, MOST_FACTORS, NUMERAL, REFERENCES, Loading, Operation, load, sheet_text, text_lines
+from reference.sheet import (
+    EARLIER, MOST_BYTES, MOST_FACTORS, NUMERAL, PRESENT, REFERENCES, Loading, Operation, load, sheet_text, sheet_text_with, text_lines)
 from reference.sisters import Difference, Sisters
 from reference.text import MOST_INPUT as MOST_RATED
 from reference.text import parted
@@ -500,6 +502,215 @@ class BendWithinBillion(Rules):
         return bend
 
 
+# ---- the year 2014 (02, request 9): these differ from the right rules in sheets of 2014 only
+
+class YearForgotten(Rules):
+    """A sheet of 2014 rated by the rules of 2016."""
+    def __init__(self, factors, note=unnoted, year=PRESENT):
+        super().__init__(factors, note, PRESENT)
+
+
+class SparseIn2014(YearForgotten):
+    """2016's bent sets, with lift and join, in 2014: only the result is lifted to all factors, and these are printed."""
+    def special_case(self, x, y):
+        return None
+
+    def result(self, line):
+        result = super().result(line)
+        return result._replace(bent=self.all_factors, bend=result.full)
+
+
+class OverOwnFactors(Rules):
+    """Λs and Λt of a line told which factors it depends on."""
+    over = frozenset()
+
+    def mul_2014(self, x, y):
+        self.over = x.depends | y.depends
+        return super().mul_2014(x, y)
+
+    def pow_2014(self, x, m):
+        self.over = x.depends
+        return super().pow_2014(x, m)
+
+    def inv_2014(self, x):
+        self.over = x.depends
+        return super().inv_2014(x)
+
+
+class SqOfOneFactorIn2014(OverOwnFactors):
+    """Sq's one-factor rule in 2014 for a line that depends on one factor of more."""
+    def lambda_s(self, slopes, step):
+        return self.sq(slopes, self.over, step)
+
+
+class CrossOfOneFactorIn2014(OverOwnFactors):
+    """Cross's one-factor rule in 2014 for lines that depend on one and the same factor of more."""
+    def lambda_t(self, g, h):
+        return self.cross(g, h, self.over)
+
+
+class OneForMoreFactors(Rules):
+    """(23) and (24) for more factors than one where n = 1."""
+    def lambda_s(self, slopes, step):
+        return self.kept(Range(0, self.squares(slopes, self.all_factors)), step)
+
+    def lambda_t(self, g, h):
+        beta = self.beta(g, h, self.all_factors)
+        return self.sum(Range(-beta, beta), self.products(g, h, self.all_factors), "2014.mul.Λt")
+
+
+class SpecialIn2014(Rules):
+    """Request 4 in 2014: for products of lines that depend on one factor each, different ones; all lines are bent."""
+    def special_in_2014(self, x, y):
+        return len(x.depends) == len(y.depends) == 1 and x.depends != y.depends
+
+    def mul_2014(self, x, y):
+        if self.special_in_2014(x, y):
+            return self.published(self.multiplied(x, y), self.special_bend(x, y))
+        return super().mul_2014(x, y)
+
+
+class SpecialOfBendsIn2014(SpecialIn2014):
+    """Request 4 in 2014 where, besides, at least one bend is not 0."""
+    def special_in_2014(self, x, y):
+        return super().special_in_2014(x, y) and (x.bend, y.bend) != (ZERO, ZERO)
+
+
+class BillionIn2014(SpecialIn2014):
+    """Request 4's refusal in 2014, and not its bend."""
+    def mul_2014(self, x, y):
+        if self.special_in_2014(x, y):
+            self.special_bend(x, y)
+        return Rules.mul_2014(self, x, y)
+
+
+class HullIn2014(Rules):
+    """The hull for the sum of two bends in 2014."""
+    def add_2014(self, x, y):
+        return super().add_2014(x, y)._replace(bend=self.hull(x.bend, y.bend))
+
+
+class HullOfApartIn2014(Rules):
+    """The hull for the sum of two bends in 2014 where the lines share no factor."""
+    def add_2014(self, x, y):
+        if x.depends & y.depends:
+            return super().add_2014(x, y)
+        return self.published(self.added(x, y), self.hull(x.bend, y.bend))
+
+
+class HullInProductIn2014(Rules):
+    """The hull of V_j·E_i and V_i·E_j in 2014 where the lines share no factor."""
+    def mul_2014(self, x, y):
+        if x.depends & y.depends:
+            return super().mul_2014(x, y)
+        scaled = self.hull(self.product(y.value, x.bend, "2014.mul.VjEi"), self.product(x.value, y.bend, "2014.mul.ViEj"))
+        return self.published(self.multiplied(x, y), self.sum(self.lambda_t(x.slopes, y.slopes), scaled, "2014.mul"))
+
+
+# Over more factors than one every bend of 2014 has 0 in it, by Λs and Λt, so that hulling it with zero changes nothing: n = 1 tells.
+class LiftIn2014(Rules):
+    """A bend of 2014 hulled with zero before a power or an inverse is made of its line."""
+    def pow_2014(self, x, m):
+        return super().pow_2014(x._replace(bend=self.hull(x.bend, ZERO)), m)
+
+    def inv_2014(self, x):
+        return super().inv_2014(x._replace(bend=self.hull(x.bend, ZERO)))
+
+
+class FullLiftedIn2014(Rules):
+    """The full bend of 2014 hulled with zero."""
+    def result(self, line):
+        return super().result(line)._replace(full=self.hull(line.bend, ZERO))
+
+
+class AddedFromTheLeft(Rules):
+    """A product's bend of 2014 added up from the left, Λt first: another sum counts as a step."""
+    def mul_2014(self, x, y):
+        left = self.sum(self.lambda_t(x.slopes, y.slopes), self.product(y.value, x.bend, "2014.mul.VjEi"), "2014.mul.left")
+        return self.published(self.multiplied(x, y), self.sum(left, self.product(x.value, y.bend, "2014.mul.ViEj"), "2014.mul"))
+
+
+class EachRoundedIn2014(Rules):
+    """Each square rounded up in 2014, and request 2 in 2016 only."""
+    def squares(self, slopes, over):
+        return sum(self.up(square, UNIT) for square in self.largest_squares(slopes, over))
+
+
+class RootOfExactSumsIn2014(Rules):
+    """The root in Λt taken of the exact sums of squares, rounded only then."""
+    def beta(self, g, h, over):
+        exact = sum(self.largest_squares(g, over)) * sum(self.largest_squares(h, over))
+        return self.up(self.root_up(exact), UNIT)
+
+
+class SumsOnlyRounded(Rules):
+    """The sum of the products in Λt rounded once, and not each product."""
+    def products(self, g, h, over):
+        ends = [[x * y for x in g[a] for y in h[a]] for a in over]
+        return Range(self.down(sum(map(min, ends)), UNIT), self.up(sum(map(max, ends)), UNIT))
+
+
+class ResultIn2014(Rules):
+    """Another set in a result of 2014."""
+    def sets(self, line):
+        raise NotImplementedError
+
+    def result(self, line):
+        return super().result(line)._replace(**self.sets(line))
+
+
+class LastFactorUnbent(ResultIn2014):
+    """A bent set of 2014 without the last factor."""
+    def sets(self, line):
+        return {"bent": line.bent - {self.factors - 1}}
+
+
+class LastFactorLeftOutIn2014(Rules):
+    """Λs and Λt of 2014 over all factors but the last of more."""
+    def squares(self, slopes, over):
+        return super().squares(slopes, [a for a in over if a < self.factors - 1 or self.factors == 1])
+
+
+class BentAsDependsOn(ResultIn2014):
+    """The depends-on set printed for the bent set of 2014."""
+    def sets(self, line):
+        return {"bent": line.depends}
+
+
+class DependsOnAll(ResultIn2014):
+    """All factors for the depends-on set of 2014."""
+    def sets(self, line):
+        return {"depends": self.all_factors}
+
+
+class SlopesDependOn(ResultIn2014):
+    """The factors whose slopes are not 0 for the depends-on set of 2014."""
+    def sets(self, line):
+        return {"depends": frozenset(a for a, slope in enumerate(line.slopes) if slope != ZERO)}
+
+
+class StraightLinesUnbent(Rules):
+    """The bent set of a factor empty in 2014, and so those of sums and of lines with a constant, until a line bends."""
+    def factor_2014(self, i, r):
+        return super().factor_2014(i, r)._replace(bent=frozenset())
+
+    def add_2014(self, x, y):
+        return super().add_2014(x, y)._replace(bent=x.bent | y.bent)
+
+    def addc_2014(self, x, c):
+        return super().addc_2014(x, c)._replace(bent=x.bent)
+
+    def mulc_2014(self, x, c):
+        return super().mulc_2014(x, c)._replace(bent=x.bent)
+
+
+YEAR_ERRORS = [
+    YearForgotten, SparseIn2014, SqOfOneFactorIn2014, CrossOfOneFactorIn2014, OneForMoreFactors, SpecialIn2014, SpecialOfBendsIn2014, BillionIn2014,
+    HullIn2014, HullOfApartIn2014, HullInProductIn2014, LiftIn2014, FullLiftedIn2014, AddedFromTheLeft, EachRoundedIn2014, RootOfExactSumsIn2014,
+    SumsOnlyRounded, LastFactorUnbent, LastFactorLeftOutIn2014, BentAsDependsOn, DependsOnAll, SlopesDependOn, StraightLinesUnbent,
+]
+
+
 ERRORS = [
     TowardZero, SquareByEnds, HullOfOverlap, BendForFull, RootDown,
     WholeLimit, FirstOperationCopied, EarlyRefusal, InventedPlace,
@@ -530,6 +741,13 @@ STEPS = [
     "mul.V", "mul.ViGj", "mul.VjGi", "mul.G", "mul.VjEi", "mul.ViEj", "mul.join", "mul.Cross.one", "mul.Cross.sum", "mul.E", *SPECIAL_STEPS,
     "pow.V", "pow.G", "pow.(m-1)Sq", "pow.VE", "pow.inner", "pow.E",
     "inv.V^2", "inv.G", "inv.Sq.one", "inv.Sq.sum", "inv.2VSq", "inv.inner", "inv.E",
+]
+
+# Those of the bends of 2014. Λt over more factors is not among them: every bend over more factors has 0 in it, so that Λt's sum with others passes, too.
+YEAR_STEPS = [
+    "2014.add", "2014.mulc", "2014.mul.VjEi", "2014.mul.ViEj", "2014.mul.VjEi+ViEj", "2014.mul.Λt.one", "2014.mul",
+    "2014.pow.(m-1)Λs", "2014.pow.VE", "2014.pow.inner", "2014.pow",
+    "2014.inv.Λs.one", "2014.inv.Λs", "2014.inv.2VΛs", "2014.inv.inner", "2014.inv",
 ]
 
 
@@ -715,6 +933,308 @@ LOADING_ERRORS = [
 ]
 
 
+# ---- loading: the year (02, request 9)
+
+class SeventeenBeforeThree(WrongLoading):
+    """17 ahead of 3."""
+    def first_line(self, count, year):
+        self.year(year)
+        return super().first_line(count, year)
+
+
+class SeventeenAfterLines(WrongLoading):
+    """17 given once every line is read: whatever an operation line is refused for comes first, and 4 for want of one."""
+    field = None
+
+    def year(self, field):
+        self.field = field
+        return PRESENT
+
+    def sheet(self, text):
+        sheet = super().sheet(text)
+        return sheet._replace(year=Loading.year(self, self.field))
+
+
+class SeventeenAfterFour(WrongLoading):
+    """4 for want of an operation line ahead of 17, and no other refusal."""
+    def sheet(self, text):
+        try:
+            return super().sheet(text)
+        except Refused as refused:
+            if refused.args[0].number == 17 and text.count(b"\n") == 1:
+                refuse(4, 1)
+            raise
+
+
+class SeventeenInRating(WrongLoading):
+    """17 given by rating and not by loading: the sheet of another year loads."""
+    def year(self, field):
+        return PRESENT if field is None else int(field)
+
+    class rules(Rules):
+        def __init__(self, factors, note=unnoted, year=PRESENT):
+            super().__init__(factors, note, year)
+            if year not in (PRESENT, EARLIER):
+                refuse(17, 1)
+
+
+class YearRead(WrongLoading):
+    """The year's numeral read otherwise."""
+    def read(self, year):
+        raise NotImplementedError
+
+    def year(self, field):
+        return super().year(None if field is None else self.read(int(field)))
+
+
+class PresentRefused(YearRead):
+    """2016 refused where it is named."""
+    def read(self, year):
+        return 0 if year == PRESENT else year
+
+
+class EarlierRefused(YearRead):
+    """2014 refused."""
+    def read(self, year):
+        return 0 if year == EARLIER else year
+
+
+class YearsExchanged(YearRead):
+    """2014 taken for 2016, and 2016, where it is named, for 2014."""
+    def read(self, year):
+        return {EARLIER: PRESENT, PRESENT: EARLIER}.get(year, year)
+
+
+class EarlierIgnored(YearRead):
+    """2014 taken for 2016."""
+    def read(self, year):
+        return PRESENT if year == EARLIER else year
+
+
+class OthersPresent(YearRead):
+    """Another numeral taken for 2016, so that 17 is not given."""
+    def read(self, year):
+        return year if year == EARLIER else PRESENT
+
+
+class OthersEarlier(YearRead):
+    """Another numeral taken for 2014."""
+    def read(self, year):
+        return year if year == PRESENT else EARLIER
+
+
+class BetweenEarlier(YearRead):
+    """2015 taken for 2014."""
+    def read(self, year):
+        return EARLIER if year == EARLIER + 1 else year
+
+
+class BetweenPresent(YearRead):
+    """2015 taken for 2016."""
+    def read(self, year):
+        return PRESENT if year == EARLIER + 1 else year
+
+
+class BeforeEarlier(YearRead):
+    """Years before 2014 taken for 2014, down to the year 1."""
+    def read(self, year):
+        return EARLIER if 1 <= year < EARLIER else year
+
+
+class AfterPresent(YearRead):
+    """Years after 2016 taken for 2016."""
+    def read(self, year):
+        return min(year, PRESENT)
+
+
+class ZeroPresent(YearRead):
+    """The year 0 taken for none."""
+    def read(self, year):
+        return year or PRESENT
+
+
+class MinusIgnored(YearRead):
+    """The minus sign of a year ignored."""
+    def read(self, year):
+        return abs(year)
+
+
+class YearOf8Bits(YearRead):
+    """The last 8 bits of a year looked at."""
+    def read(self, year):
+        return {EARLIER % 2 ** 8: EARLIER, PRESENT % 2 ** 8: PRESENT}.get(year % 2 ** 8, year)
+
+
+class YearOf16Bits(YearRead):
+    """The year kept in 16 bits."""
+    def read(self, year):
+        return year % 2 ** 16
+
+
+class YearOf32Bits(YearRead):
+    """The year kept in 32 bits."""
+    def read(self, year):
+        return year % 2 ** 32
+
+
+class FourDigits(YearRead):
+    """The first four digits of a year looked at."""
+    def read(self, year):
+        return int(str(year)[:4]) if year > 0 else year
+
+
+class AnotherThanSeventeen(WrongLoading):
+    """Something else in the place of 17 at text line 1."""
+    instead = None
+
+    def year(self, field):
+        try:
+            return super().year(field)
+        except Refused:
+            refuse(*self.instead)
+
+
+class TwoForSeventeen(AnotherThanSeventeen):
+    """2 in the place of 17."""
+    instead = 2, 1
+
+
+class ThreeForSeventeen(AnotherThanSeventeen):
+    """3 in the place of 17."""
+    instead = 3, 1
+
+
+class SeventeenAtZero(AnotherThanSeventeen):
+    """17 with place 0."""
+    instead = 17, 0
+
+
+class SeventeenForTwo(WrongLoading):
+    """17 for a third field that is no numeral."""
+    def sheet(self, text):
+        found = re.match(rb"factors\t" + NUMERAL + rb"\t([^\t\n]*)\n", text)
+        if found and not re.fullmatch(NUMERAL, found[2]):
+            self.check_count(int(found[1]))
+            refuse(17, 1)
+        return super().sheet(text)
+
+
+class FirstLineRewritten(WrongLoading):
+    """A first line read as if it were written otherwise."""
+    found, instead = b"", b""
+
+    def sheet(self, text):
+        line, ended, more = text.partition(b"\n")
+        return super().sheet(re.sub(rb"\A(factors\t[^\t]*)" + self.found + rb"\Z", rb"\1" + self.instead, line) + ended + more)
+
+
+class ThirdFieldIgnored(FirstLineRewritten):
+    """All that stands behind the number of factors ignored, so that every sheet is of 2016."""
+    found, instead = rb"\t.*", b""
+
+
+class NoNumeralIgnored(FirstLineRewritten):
+    """A third field that is no numeral ignored."""
+    found, instead = rb"\t(?!(?:0|-?[1-9][0-9]{0,9})\Z)[^\t]*", b""
+
+
+class EmptyYearIgnored(FirstLineRewritten):
+    """An empty third field taken for none."""
+    found, instead = rb"\t", b""
+
+
+class YearZerosTaken(FirstLineRewritten):
+    """Zeros before the year taken."""
+    found, instead = rb"\t0+([1-9][0-9]*)", rb"\t\2"
+
+
+class YearPlusTaken(FirstLineRewritten):
+    """A plus sign before the year taken."""
+    found, instead = rb"\t\+([0-9]+)", rb"\t\2"
+
+
+class YearBlanksSkipped(FirstLineRewritten):
+    """Blanks beside the year skipped."""
+    found, instead = rb"\t *([0-9]+) *", rb"\t\2"
+
+
+class YearTabsSkipped(FirstLineRewritten):
+    """Two tabs before the year taken for one."""
+    found, instead = rb"\t\t([0-9]+)", rb"\t\2"
+
+
+class YearTabBehindSkipped(FirstLineRewritten):
+    """A tab behind the year skipped."""
+    found, instead = rb"\t([0-9]+)\t", rb"\t\2"
+
+
+class YearByte13Skipped(FirstLineRewritten):
+    """Byte 13 behind the year skipped."""
+    found, instead = rb"\t([0-9]+)\r", rb"\t\2"
+
+
+class YearByte0Skipped(FirstLineRewritten):
+    """Byte 0 behind the year skipped."""
+    found, instead = rb"\t([0-9]+)\x00", rb"\t\2"
+
+
+class YearLettersIgnored(FirstLineRewritten):
+    """What follows the digits of a year ignored."""
+    found, instead = rb"\t([0-9]+)[^0-9\t][^\t]*", rb"\t\2"
+
+
+class FourthFieldIgnored(FirstLineRewritten):
+    """A fourth field ignored, whatever it is."""
+    found, instead = rb"\t([0-9]+)\t[^\t]*", rb"\t\2"
+
+
+class LastYearTaken(FirstLineRewritten):
+    """The last of two years taken."""
+    found, instead = rb"\t[0-9]+\t([0-9]+)", rb"\t\2"
+
+
+class YearDigitsDropped(FirstLineRewritten):
+    """Digits behind the tenth of a year dropped."""
+    found, instead = rb"\t([0-9]{10})[0-9]+", rb"\t\2"
+
+
+class SeventeenBeforeByte10(WrongLoading):
+    """17 ahead of 2 for the missing byte 10."""
+    def sheet(self, text):
+        return super().sheet(text + b"\n" if re.fullmatch(rb"factors\t[1-8]\t" + NUMERAL, text) else text)
+
+
+class TimesZeroInEarlier(WrongLoading):
+    """`mulc` by 0 taken in 2014, and request 5 in 2016 only."""
+    now = PRESENT
+
+    def year(self, field):
+        self.now = super().year(field)
+        return self.now
+
+    def check_multiplier(self, operation, codelist_line, place):
+        if self.now == PRESENT:
+            super().check_multiplier(operation, codelist_line, place)
+
+
+class AbsentEarlier(WrongLoading):
+    """2014 taken where no year is named."""
+    def year(self, field):
+        return EARLIER if field is None else super().year(field)
+
+
+# Those that can differ only where there is a third field.
+YEAR_LOADING_ERRORS = [
+    SeventeenBeforeThree, SeventeenAfterLines, SeventeenAfterFour, SeventeenInRating,
+    PresentRefused, EarlierRefused, YearsExchanged, EarlierIgnored, OthersPresent, OthersEarlier, BetweenEarlier, BetweenPresent, BeforeEarlier,
+    AfterPresent, ZeroPresent, MinusIgnored, YearOf8Bits, YearOf16Bits, YearOf32Bits, FourDigits,
+    TwoForSeventeen, ThreeForSeventeen, SeventeenAtZero, SeventeenForTwo,
+    ThirdFieldIgnored, NoNumeralIgnored, EmptyYearIgnored, YearZerosTaken, YearPlusTaken, YearBlanksSkipped, YearTabsSkipped, YearTabBehindSkipped,
+    YearByte13Skipped, YearByte0Skipped, YearLettersIgnored, FourthFieldIgnored, LastYearTaken, YearDigitsDropped, SeventeenBeforeByte10,
+    TimesZeroInEarlier,
+]
+
+
 # ---- tidying
 
 class SecondOfProductUnused(Tidying):
@@ -850,6 +1370,36 @@ class ReferencesSorted(Tidying):
         name, numbers = super().renumbered(operation, kept)
         return Operation(name, tuple(sorted(numbers)) if REFERENCES[name] == 2 else numbers)
 
+
+# ---- tidying: the year
+
+class YearAlwaysNamed(Tidying):
+    """2016 named, too."""
+    def tidied_text(self, text, loading=Loading):
+        sheet = load(text, rules=loading)
+        return sheet_text_with((sheet.year,), self.tidied(sheet))
+
+
+class YearNeverNamed(Tidying):
+    """No year named."""
+    def tidied_text(self, text, loading=Loading):
+        return sheet_text_with((), self.tidied(load(text, rules=loading)))
+
+
+class YearAsItCame(Tidying):
+    """The first line kept as it came, with 2016 where it is named."""
+    def tidied_text(self, text, loading=Loading):
+        return text.partition(b"\n")[0] + b"\n" + super().tidied_text(text, loading).partition(b"\n")[2]
+
+
+class YearLostWithLines(Tidying):
+    """The year named only where no line is dropped."""
+    def tidied_text(self, text, loading=Loading):
+        sheet = load(text, rules=loading)
+        return sheet_text(self.tidied(sheet)) if self.tidied(sheet) == sheet else sheet_text_with((), self.tidied(sheet))
+
+
+YEAR_TIDY_ERRORS = [YearAlwaysNamed, YearNeverNamed, YearAsItCame, YearLostWithLines]
 
 TIDY_ERRORS = [
     SecondOfProductUnused, SecondOfSumUnused, ExponentUsed, DirectUseOnly, TwoStepsOnly, NamedAtAll, EqualLinesMerged, PlusZeroDropped,
@@ -1155,7 +1705,42 @@ class ListBeforeTimesZero(Fleet):
         return report
 
 
+# ---- the fleet page: the year
+
+class PageOfPresent(Fleet):
+    """The boats of a sheet of 2014 rated by the rules of 2016."""
+    def rating(self, sheet, boat):
+        return super().rating(sheet._replace(year=PRESENT), boat)
+
+
+class PageOfEarlier(Fleet):
+    """All boats rated by the rules of 2014."""
+    def rating(self, sheet, boat):
+        return super().rating(sheet._replace(year=EARLIER), boat)
+
+
+class FirstBoatOfEarlier(Fleet):
+    """The first boat of a sheet of 2014 rated by its rules, and the others by those of 2016."""
+    def report(self, sheet, boats):
+        self.rated_now = 0
+        return super().report(sheet, boats)
+
+    def rating(self, sheet, boat):
+        self.rated_now += 1
+        return super().rating(sheet if self.rated_now == 1 else sheet._replace(year=PRESENT), boat)
+
+
+class ListBeforeSeventeen(Fleet):
+    """14 ahead of 17, and behind the other refusals of loading."""
+    loading = OthersPresent
+
+    def run(self, text):
+        answer = super().run(text)
+        return answer if isinstance(answer, Refusal) else Fleet(self.rated).run(text)
+
+
 FLEET_ERRORS = [
+    PageOfPresent, PageOfEarlier, FirstBoatOfEarlier, ListBeforeSeventeen,
     EightForN, LastNumbers, NumbersInPairs, RecordsOfN, RestChecked, LimitRefused, OneBeyondTaken,
     RefusedAccepted, RangeForLimit, RangeForDivisor, DivisorForLimit, RefusalOfThePage, EndsLeftOver, RefusedSummed, HighEndsTwice, SumsOf32Bits,
     LastGreatest, PositionFromZero, PositionAmongAccepted, GreatestAboveZero, RefusedGreatest, GreatestLow,
@@ -1684,6 +2269,16 @@ class SixteenBeforeFifteen(Cutting):
         return depth
 
 
+class SixteenBeforeSeventeen(Cutting):
+    """16 ahead of 17, and behind the other refusals of loading."""
+    loading = OthersPresent
+
+    def depth(self, text):
+        depth = super().depth(text)
+        Cutting().sheet(text)
+        return depth
+
+
 class Rewritten(OtherForm):
     """A first line read as if it were written otherwise."""
     found, instead, flags = b"", b"", 0
@@ -1757,7 +2352,59 @@ class EmptyLineZero(Rewritten):
     found, instead = rb"\A\Z", b"depth\t0"
 
 
+# ---- classes cut finer: the year
+
+class CutOfPresent(Cutting):
+    """A class of 2014 rated by the rules of 2016."""
+    def rating(self, sheet, ranges, depth):
+        return super().rating(sheet._replace(year=PRESENT), ranges, depth)
+
+
+class CutOfEarlier(Cutting):
+    """Every class rated by the rules of 2014."""
+    def rating(self, sheet, ranges, depth):
+        return super().rating(sheet._replace(year=EARLIER), ranges, depth)
+
+
+class UncutOfPresent(Cutting):
+    """The year forgotten where nothing is cut."""
+    def call(self, sheet, ends, depth):
+        return super().call(sheet if depth else sheet._replace(year=PRESENT), ends, depth)
+
+
+class PartsOfPresent(Cutting):
+    """The year forgotten where a range is cut."""
+    def call(self, sheet, ends, depth):
+        return super().call(sheet._replace(year=PRESENT) if depth else sheet, ends, depth)
+
+
+class HalfOfPresent(Cutting):
+    """The year forgotten in one half."""
+    half = None  # 0 the lower one, 1 the upper one
+
+    def rating(self, sheet, ranges, depth):
+        if self.uncut(ranges, depth):
+            return self.rated(sheet, ranges)
+        sheets = [sheet._replace(year=PRESENT) if half == self.half else sheet for half in (0, 1)]
+        answers = [self.rating(now, part, left) for now, part, left in zip(sheets, self.halves(ranges), self.left(depth))]
+        return self.both(*answers)
+
+
+class LowerOfPresent(HalfOfPresent):
+    """The year forgotten in the lower half; the printed sets are the upper one's."""
+    half = 0
+
+    def hulled(self, lower, upper):
+        return super().hulled(lower, upper)._replace(bent=upper.bent)
+
+
+class UpperOfPresent(HalfOfPresent):
+    """The year forgotten in the upper half."""
+    half = 1
+
+
 CUT_ERRORS = [
+    CutOfPresent, CutOfEarlier, UncutOfPresent, PartsOfPresent, LowerOfPresent, UpperOfPresent,
     UpperFromNext, LowerToBefore, CutTowardZero, CutRoundedUp, CutOf32Bits, WidthOf32Bits, HighestOnEqualWidth, FirstFactorCut, WidestOnceForAll,
     FactorsInTurn, FarthestCut, TwoUnitsUncut, OneUnitCut, AnyNarrowUncut,
     OneTooMany, OneTooFew, CutOnce, LowerOnce, UpperOnce, LowerDepthKept, UpperDepthKept,
@@ -1772,6 +2419,7 @@ FIRST_LINE_ERRORS = [
     SixteenBeforeLoading, SixteenBeforeLength, EightBeforeSixteen, FormBeforeSixteen, NineBeforeSixteen, LinesBeforeSixteen, NineOfParts,
     PlacesFromFirstLine, FirstLineUncounted, FirstLineInSheet, LengthAfterLoading, SheetEndSoughtFirst,
     OtherFormZero, OtherFormTwo, OtherFormEight, OtherFormFirst, NoFirstLineSixteen, FirstLineLeftOut, TimesZeroRated, SixteenBeforeFifteen,
+    SixteenBeforeSeventeen,
     ZerosInFrontTaken, MinusZeroDepth, PlusTaken, BlanksTaken, BlanksAroundTaken, TabsTaken, CapitalsTaken, AnyWordTaken, NoWordTaken, Byte13Skipped,
     FieldsBehindIgnored, NoNumeralZero, EmptyLineZero,
 ]
@@ -2063,6 +2711,18 @@ class OfClassCut(Sisters):
     def rated_class(self, sheet, ends):
         super().rated_class(sheet, ends)
         return Cutting().call(sheet, list(ends), 1)
+
+
+class ClassOfPresent(Sisters):
+    """A class of 2014 rated by the rules of 2016. The slopes are the same: only a refusal tells."""
+    def rated_class(self, sheet, ends):
+        return super().rated_class(sheet._replace(year=PRESENT), ends)
+
+
+class ClassOfEarlier(Sisters):
+    """Every class rated by the rules of 2014."""
+    def rated_class(self, sheet, ends):
+        return super().rated_class(sheet._replace(year=EARLIER), ends)
 
 
 # ---- sister boats: which boats are taken, and when that is asked
@@ -2671,6 +3331,7 @@ SISTER_LIMIT_ERRORS = [
 ]
 
 SISTER_BOAT_ERRORS = [
+    ClassOfPresent, ClassOfEarlier,
     SecondUntested, FirstUntested, FirstRangeForAll, FirstFactorTested, LastFactorUntested, HighestFactor, FirstBoatFirst, SecondBoatFirst,
     BothBoatsOutside, LowEndExcluded, HighEndExcluded, EndsExcluded, BelowTaken, AboveTaken, NextBelowTaken, NextAboveTaken, OnlyLimitTested,
     BeyondTaken, ValuesOf32Bits, NineAtZero, NineAtBoat, NineFromZero, Interleaved, EqualBoatsFirst, EqualBoatsUntested,

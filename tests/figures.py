@@ -1,12 +1,12 @@
 """The figures and edges of the papers as inputs of `rate` with the whole text it must print; inputs whose sheets are tidied, with the tidied sheet;
 inputs of `fleet`, of `cut` and of `sisters`, with their whole print.
 
-In all of them, `;` stands for byte 10 and a blank for the tab. Where 01 gives a part of a result only, the other lines follow from its table.
+In all of them, `;` stands for byte 10, a blank for the tab and byte 11 for a blank. Where 01 gives a part of a result only, the other lines follow from its table.
 """
 
 
 def text(short):
-    return short.replace(" ", "\t").replace(";", "\n").encode()
+    return short.replace(" ", "\t").replace(";", "\n").replace("\v", " ").encode()
 
 
 def lines(first, count, operation):
@@ -310,9 +310,120 @@ ALONE = [
     ("inv.Sq.sum", "factors 2;add 1 2;mulc 3 4000000;addc 4 100000000;inv 5;box;0 0;0 0;", "refused 12 6;"),
 ]
 
+
+
+def in_year(year, given):
+    """An input with the year put into its first line; the field may be any other, too."""
+    first, line_end, more = given.partition(";")
+    return f"{first} {year}{line_end}{more}"
+
+
+# 02, request 9: an input in both years, with what it prints in 2014 and in 2016. 000's Example 1 is "join by hull" above.
+BOTH_YEARS = [
+    ("two squares added", "factors 2;pow 1 2;pow 2 2;add 3 4;box;0 10000;0 10000;",
+     "value 0 20000;slope 1 0 20000;slope 2 0 20000;depends 1 2;bent 1 2;bend 0 40000;full 0 40000;",
+     "value 0 20000;slope 1 0 20000;slope 2 0 20000;depends 1 2;bent 1 2;bend 20000 20000;full 20000 20000;"),
+    ("a square times the other factor", "factors 2;pow 1 2;mul 3 2;box;10000 10000;10000 10000;",
+     "value 10000 10000;slope 1 20000 20000;slope 2 10000 10000;depends 1 2;bent 1 2;bend -20000 40000;full -20000 40000;",
+     "value 10000 10000;slope 1 20000 20000;slope 2 10000 10000;depends 1 2;bent 1 2;bend -12361 32361;full -12361 32361;"),
+    ("a square of one factor of two", "factors 2;pow 1 2;box;10000 30000;0 10000;",
+     "value 10000 90000;slope 1 20000 60000;slope 2 0 0;depends 1;bent 1 2;bend 0 20000;full 0 20000;",
+     "value 10000 90000;slope 1 20000 60000;slope 2 0 0;depends 1;bent 1;bend 20000 20000;full 0 20000;"),
+    ("a factor times two", "factors 1;mulc 1 20000;box;10000 30000;",
+     "value 20000 60000;slope 1 20000 20000;depends 1;bent 1;bend 0 0;full 0 0;",
+     "value 20000 60000;slope 1 20000 20000;depends 1;bent;bend 0 0;full 0 0;"),
+    ("a factor itself", "factors 3;addc 2 0;box;1 2;3 4;5 6;",
+     "value 3 4;slope 1 0 0;slope 2 10000 10000;slope 3 0 0;depends 2;bent 1 2 3;bend 0 0;full 0 0;",
+     "value 3 4;slope 1 0 0;slope 2 10000 10000;slope 3 0 0;depends 2;bent;bend 0 0;full 0 0;"),
+    ("n = 1: all but the set of a straight line is the same", "factors 1;pow 1 2;inv 2;mul 3 1;box;10000 20000;",
+     "value 2500 20000;slope 1 -77500 8750;depends 1;bent 1;bend -80000 597500;full -80000 597500;",
+     "value 2500 20000;slope 1 -77500 8750;depends 1;bent 1;bend -80000 597500;full -80000 597500;"),
+    # Sq of 2016 is the second power over one factor, 4 to 4; Λs is 0 to 4
+    ("an inverse of one factor of two", "factors 2;inv 1;box;20000 40000;0 0;",
+     "value 2500 5000;slope 1 -2500 -625;slope 2 0 0;depends 1;bent 1 2;bend 0 2500;full 0 2500;",
+     "value 2500 5000;slope 1 -2500 -625;slope 2 0 0;depends 1;bent 1;bend 312 2500;full 0 2500;"),
+    # Cross of 2016 is twice the product, 2; Λt is 1 and -1 to 1
+    ("a factor of two times itself", "factors 2;mul 1 1;box;10000 10000;0 0;",
+     "value 10000 10000;slope 1 20000 20000;slope 2 0 0;depends 1;bent 1 2;bend 0 20000;full 0 20000;",
+     "value 10000 10000;slope 1 20000 20000;slope 2 0 0;depends 1;bent 1;bend 20000 20000;full 0 20000;"),
+    ("bends that only 2014 adds up past the limit", "factors 2;pow 1 2;mulc 3 1000000000;pow 2 2;mulc 5 1000000000;add 4 6;box;0 0;0 0;",
+     "refused 12 7;",
+     "value 0 0;slope 1 0 0;slope 2 0 0;depends 1 2;bent 1 2;bend 2000000000 2000000000;full 2000000000 2000000000;"),
+    # A is a unit past 1,000,000,000 in 2016; Λt of two slopes 0 is 0
+    ("a product that only 2016 refuses", "factors 2;pow 1 2;mulc 3 5000;mul 4 2;box;0 0;1000000001 1000000001;",
+     "value 0 0;slope 1 0 0;slope 2 0 0;depends 1 2;bent 1 2;bend 0 1000000001;full 0 1000000001;",
+     "refused 12 5;"),
+    # each square rounded: 0 to 40032
+    ("squares rounded once in 2014, too", f"factors 8;{ALL_EIGHT}mulc 15 5001;pow 16 2;box;" + "0 10000;" * 8,
+     *["value 0 160065;" + "".join(f"slope {a} 0 40018;" for a in range(1, 9)) + "depends 1 2 3 4 5 6 7 8;bent 1 2 3 4 5 6 7 8;"
+       "bend 0 40018;full 0 40018;"] * 2),
+    ("the root of two rounded sums in 2014, too", "factors 2;mulc 1 1;mulc 2 1;add 3 4;mulc 1 5000;mulc 2 5000;add 6 7;mul 5 8;box;0 0;0 0;",
+     *["value 0 0;slope 1 0 0;slope 2 0 0;depends 1 2;bent 1 2;bend -71 73;full -71 73;"] * 2),
+    ("times 0 in 2014, too", "factors 1;mulc 1 0;box;1 2;", "refused 15 2;", "refused 15 2;"),
+    ("11 in either year", "factors 1;inv 1;box;0 10000;", "refused 11 2;", "refused 11 2;"),
+    ("12 in either year", "factors 1;inv 1;box;1 1;", "refused 12 2;", "refused 12 2;"),
+    ("8 in either year", "factors 1;inv 1;box;", "refused 8 0;", "refused 8 0;"),
+]
+
+# 02, request 9: what the third field of the first line is read as.
+FIRST_LINES = [
+    ("nine factors, and a year that is none", "factors 9 2015;", "refused 3 1;"),
+    ("no factor, and a year that is none", "factors 0 2015;addc 1 0;box;7 9;", "refused 3 1;"),
+    ("nine factors in 2014", "factors 9 2014;addc 1 0;", "refused 3 1;"),
+    ("a year that is none, and no operation", "factors 1 2015;", "refused 17 1;"),
+    ("2014, and no operation", "factors 1 2014;", "refused 4 1;"),
+    ("2016, and no operation", "factors 1 2016;", "refused 4 1;"),
+    ("a year with a minus sign", "factors 1 -2014;", "refused 17 1;"),
+    ("a year that is none, and an operation", "factors 1 2015;addc 1 0;box;7 9;", "refused 17 1;"),
+    ("the year before", "factors 1 2013;addc 1 0;box;7 9;", "refused 17 1;"),
+    ("the year after", "factors 1 2017;addc 1 0;box;7 9;", "refused 17 1;"),
+    ("the year 0", "factors 1 0;addc 1 0;box;7 9;", "refused 17 1;"),
+    ("a year of ten digits", "factors 1 9999999999;addc 1 0;box;7 9;", "refused 17 1;"),
+    ("a year of ten digits below 0", "factors 1 -9999999999;addc 1 0;box;7 9;", "refused 17 1;"),
+    ("2014 in 16 bits", "factors 1 67550;addc 1 0;box;7 9;", "refused 17 1;"),
+    ("2014 in 32 bits", "factors 1 4294969310;addc 1 0;box;7 9;", "refused 17 1;"),
+    ("a year that is none, and a line of another form", "factors 1 2015;x;", "refused 17 1;"),
+    ("a year that is none, and a reference that is not earlier", "factors 1 2015;inv 9;box;7 9;", "refused 17 1;"),
+    ("a year that is none, and times 0", "factors 1 2015;mulc 1 0;box;7 9;", "refused 17 1;"),
+    ("a year that is none, and a line without byte 10", "factors 1 2015;inv 1", "refused 17 1;"),
+    ("a year that is none, and no box line", "factors 1 2015;inv 1;", "refused 17 1;"),
+    ("a year that is none without byte 10", "factors 1 2015", "refused 2 1;"),
+    ("2014 without byte 10", "factors 1 2014", "refused 2 1;"),
+    ("a year with a zero in front", "factors 1 02014;addc 1 0;box;7 9;", "refused 2 1;"),
+    ("an empty third field", "factors 1 ;addc 1 0;box;7 9;", "refused 2 1;"),
+    ("a third field `-0`", "factors 1 -0;addc 1 0;box;7 9;", "refused 2 1;"),
+    ("a third field of eleven digits", "factors 1 20140000000;addc 1 0;box;7 9;", "refused 2 1;"),
+    ("a third field with a letter", "factors 1 2014x;addc 1 0;box;7 9;", "refused 2 1;"),
+    ("a third field with byte 13", "factors 1 2014\r;addc 1 0;box;7 9;", "refused 2 1;"),
+    ("a third field with a blank", "factors 1 2014\v;addc 1 0;box;7 9;", "refused 2 1;"),
+    ("a fourth field", "factors 1 2014 2014;addc 1 0;box;7 9;", "refused 2 1;"),
+    ("a fourth field that is empty", "factors 1 2016 ;addc 1 0;box;7 9;", "refused 2 1;"),
+    ("two tabs", "factors 1  2014;addc 1 0;box;7 9;", "refused 2 1;"),
+    ("nine factors, and a third field that is no numeral", "factors 9 x;", "refused 2 1;"),
+    ("a third field of an operation is no year", "factors 1;inv 1 2014;box;7 9;", "refused 2 2;"),
+    ("2014 in line 64", lines("factors 1 2014;", 64, "addc 1 0;") + "box;7 9;", "value 7 9;slope 1 10000 10000;depends 1;bent 1;bend 0 0;full 0 0;"),
+    ("2014 in line 65", lines("factors 1 2014;", 65, "addc 1 0;") + "box;7 9;", "refused 4 65;"),
+]
+
+# The steps of the bends of 2014, each of which alone passes the limit, by those of 01's table that they are with n = 1, and with n = 2 for one of them.
+OF_2014 = {
+    "add.join": "add", "mulc.E": "mulc", "mul.VjEi": "mul.VjEi", "mul.ViEj": "mul.ViEj", "mul.join": "mul.VjEi+ViEj", "mul.Cross.one": "mul.Λt.one",
+    "mul.E": "mul", "pow.(m-1)Sq": "pow.(m-1)Λs", "pow.VE": "pow.VE", "pow.inner": "pow.inner", "pow.E": "pow", "inv.Sq.one": "inv.Λs.one",
+    "inv.Sq.sum": "inv.Λs", "inv.2VSq": "inv.2VΛs", "inv.inner": "inv.inner", "inv.E": "inv",
+}
+ALONE_IN_2014 = [(f"2014.{OF_2014[name]}", in_year(2014, given), expected) for name, given, expected in ALONE if name in OF_2014]
+
+YEARS = [
+    *((f"{name}, {year}", in_year(year, given), expected)
+      for name, given, earlier, present in BOTH_YEARS for year, expected in ((2014, earlier), (2016, present))),
+    *((f"{name}, no year", given, present) for name, given, _, present in BOTH_YEARS),
+    *FIRST_LINES,
+    *ALONE_IN_2014,
+]
+
 FIGURES = [
     (name, text(given), text(expected))
-    for name, given, expected in STARRED + PRINTED + EDGES + READINGS + SQUARES + SPECIAL + TIMES_ZERO + ROUNDED + ALONE]
+    for name, given, expected in STARRED + PRINTED + EDGES + READINGS + SQUARES + SPECIAL + TIMES_ZERO + ROUNDED + ALONE + YEARS]
 
 LONGEST = "factors 1;" + "".join(f"addc {k} -2000000000;" for k in range(1, 64))
 
@@ -346,6 +457,18 @@ TIDYING = [
     ("refused for its last line", "factors 1;inv 1;addc 1 0", "refused 2 3;"),
     ("times 0 in a used line", "factors 1;pow 1 2;inv 1;mulc 2 0;box;1 2;", "refused 15 4;"),
     ("times 0 in a dead line", "factors 1;pow 1 2;mulc 1 0;addc 2 1;box;1 2;", "refused 15 3;"),
+    # request 9: "A tidied sheet names the year only for 2014"
+    ("2014, and nothing to drop", "factors 2 2014;mul 1 2;box;1 2;3 4;", "factors 2 2014;mul 1 2;"),
+    ("2014, and a dead line", "factors 2 2014;inv 2;pow 1 2;addc 4 7;box;1 2;3 4;", "factors 2 2014;pow 1 2;addc 3 7;"),
+    ("2016 named, and nothing to drop", "factors 2 2016;mul 1 2;box;1 2;3 4;", "factors 2;mul 1 2;"),
+    ("2016 named, and a dead line", "factors 2 2016;inv 2;pow 1 2;addc 4 7;box;1 2;3 4;", "factors 2;pow 1 2;addc 3 7;"),
+    ("a dead line that only 2014 refuses", "factors 2 2014;pow 1 2;mulc 3 1000000000;pow 2 2;mulc 5 1000000000;add 4 6;addc 1 0;box;0 0;0 0;",
+     "factors 2 2014;addc 1 0;"),
+    # 1,266 bytes
+    ("the longest sheet in 2014", LONGEST.replace("1;", "1 2014;", 1) + "box;0 0;", LONGEST.replace("1;", "1 2014;", 1)),
+    ("a year that is none, in a sheet with a dead line", "factors 1 2015;pow 1 2;addc 1 0;box;1 2;", "refused 17 1;"),
+    ("nine factors, and a year that is none", "factors 9 2015;", "refused 3 1;"),
+    ("a year with a zero in front", "factors 1 02014;addc 1 0;", "refused 2 1;"),
 ]
 
 TIDIED = [(name, text(given), text(expected)) for name, given, expected in TIDYING]
@@ -363,6 +486,7 @@ def page(*figures):
 
 
 KEPT = "factors 1;addc 1 0;"  # the premium is the factor itself
+TWO_STEEP = "factors 2;pow 1 2;mulc 3 1000000000;pow 2 2;mulc 5 1000000000;add 4 6;"  # each of the two bends is at the limit
 
 # 02, request 3, sentence by sentence, and what the program makes of its input.
 FLEET = [
@@ -409,6 +533,17 @@ FLEET = [
     ("sheet of 4,096 bytes", "x" * 4095 + ";boats;" + boats(1), "refused 2 1;"),
     ("sheet of 4,097 bytes", "x" * 4096 + ";boats;" + boats(1), "refused 1 0;"),
     ("the longest sheet", LONGEST + "boats;" + boats(0), page(1, 0, 0, 0, 1, 0, 0, 0)),
+    # request 9: a page has no bends, and so the year shows where these are refused
+    ("2014", "factors 1 2014;addc 1 0;boats;" + boats(7, 9), page(2, 2, 0, 0, 0, 16, 16, 2)),
+    ("2016 named", "factors 1 2016;addc 1 0;boats;" + boats(7, 9), page(2, 2, 0, 0, 0, 16, 16, 2)),
+    ("bends added up past the limit in 2014", in_year(2014, TWO_STEEP) + "boats;" + boats("0 0", "1 1"), page(2, 0, 0, 0, 2, 0, 0, 0)),
+    ("the same in 2016", in_year(2016, TWO_STEEP) + "boats;" + boats("0 0", "0 2000000001"), page(2, 1, 1, 0, 0, 0, 0, 1)),
+    ("past 1,000,000,000 in 2014", "factors 2 2014;pow 1 2;mul 3 2;boats;" + boats("0 500000000", "0 500000001"), page(2, 2, 0, 0, 0, 0, 0, 1)),
+    ("a year that is none", "factors 1 2015;addc 1 0;boats;" + boats(7), "refused 17 1;"),
+    ("a year that is none ahead of the boats", "factors 1 2015;addc 1 0;boats;x;", "refused 17 1;"),
+    ("a year that is none, and no operation", "factors 1 2015;boats;", "refused 17 1;"),
+    ("nine factors, and a year that is none", "factors 9 2015;boats;", "refused 3 1;"),
+    ("a year with a zero in front", "factors 1 02014;addc 1 0;boats;", "refused 2 1;"),
 ]
 
 REPORTED = [(name, text(given), text(expected)) for name, given, expected in FLEET]
@@ -429,6 +564,7 @@ TOO_HIGH = "factors 1;mulc 1 -10000;addc 2 5000000;mul 1 3;box;0 5000000;"  # x�
 STEEP = "value {0} 18;slope 1 -180000 60000;depends 1;bent 1;bend 800000000 800000000;full 800000000 800000000;"
 OF_TWO = "value {0} 12500;slope 1 -20000 20000;slope 2 -10000 10000;depends 1 2;bent 1 2;bend 20000 20000;full 20000 20000;"
 OF_ONE = "value {0} 10000;slope 1 -20000 20000;slope 2 0 0;depends 1;bent 1;bend 20000 20000;full 0 20000;"
+OF_ONE_IN_2014 = "value {0} 10000;slope 1 -20000 20000;slope 2 0 0;depends 1;bent 1 2;bend 0 20000;full 0 20000;"
 KEPT_BOX = KEPT + "box;7 9;"
 
 # 02, request 6, sentence by sentence, and what the program makes of its input.
@@ -495,6 +631,18 @@ CUTTING = [
     ("8,193 bytes, most of them in the first line", "depth 3" + "0" * (8193 - 8 - len(KEPT_BOX)) + ";" + KEPT_BOX, "refused 1 0;"),
     ("4,096 bytes of sheet behind the first line", "depth 3;" + "x" * 4095 + ";box;7 9;", "refused 2 1;"),
     ("4,097 bytes of sheet behind the first line", "depth 3;" + "x" * 4096 + ";box;7 9;", "refused 1 0;"),
+    # request 9: over two factors a bend of 2014 has 0 in it however the class is cut; so has the full bend of 2016 here, but not its bend
+    ("2014 uncut", "depth 0;" + in_year(2014, UNUSED_FACTOR), OF_ONE_IN_2014.format(-10000)),
+    ("2014 cut", "depth 1;" + in_year(2014, UNUSED_FACTOR), OF_ONE_IN_2014.format(0)),
+    ("2016 named and cut", "depth 1;" + in_year(2016, UNUSED_FACTOR), OF_ONE.format(0)),
+    ("one factor in 2014, cut", "depth 2;" + in_year(2014, SQUARE), squared(-1250, 40000)),
+    ("a straight line in 2014, cut", "depth 6;factors 1 2014;addc 1 0;box;7 9;", FACTOR_KEPT.replace("bent;", "bent 1;")),
+    ("bends added up past the limit in 2014, in each part", "depth 6;" + in_year(2014, TWO_STEEP) + "box;0 9;0 9;", "refused 12 7;"),
+    ("a year that is none ahead of 16", "depth 7;factors 1 2015;addc 1 0;box;7 9;", "refused 17 1;"),
+    ("a year that is none, and no operation", "depth 7;factors 1 2015;box;7 9;", "refused 17 1;"),
+    ("nine factors, and a year that is none", "depth 7;factors 9 2015;box;7 9;", "refused 3 1;"),
+    ("a year with a zero in front", "depth 0;factors 1 02014;addc 1 0;box;7 9;", "refused 2 1;"),
+    ("a year behind the depth", "depth 0 2014;" + KEPT_BOX, "refused 16 0;"),
 ]
 
 LIMITED = [(name, text(given), text(expected)) for name, given, expected in CUTTING]
@@ -583,6 +731,17 @@ SISTERS = [
     ("8,193 bytes with the boat lines", KEPT_BOX + "boats;7;9;" + "x" * (8193 - 10 - len(KEPT_BOX)), "refused 1 0;"),
     ("4,096 bytes of sheet before the boats", "x" * 4095 + ";box;7 9;boats;7;9;", "refused 2 1;"),
     ("4,097 bytes of sheet before the boats", "x" * 4096 + ";box;7 9;boats;7;9;", "refused 1 0;"),
+    # request 9: the slopes are the same in both years, and so the year shows where a bend is refused
+    ("1 beside 3 in 2014", sisters(10000, 30000, "factors 1 2014;pow 1 2;box;10000 30000;"), "difference 40000 120000;"),
+    ("1 beside 3, and 2016 named", sisters(10000, 30000, "factors 1 2016;pow 1 2;box;10000 30000;"), "difference 40000 120000;"),
+    ("both factors apart in 2014", sisters("10000 30000", "20000 40000", in_year(2014, PRODUCT)), "difference 40000 60000;"),
+    ("bends added up past the limit in 2014", sisters("0 0", "0 0", in_year(2014, TWO_STEEP) + "box;0 0;0 0;"), "refused 12 7;"),
+    ("the same in 2016", sisters("0 0", "0 0", in_year(2016, TWO_STEEP) + "box;0 0;0 0;"), "difference 0 0;"),
+    ("12 of 2014 ahead of the boats' 9", sisters("0 0", "0 1", in_year(2014, TWO_STEEP) + "box;0 0;0 0;"), "refused 12 7;"),
+    ("a year that is none ahead of all", "factors 1 2015;addc 1 0;box;x;boats;x;", "refused 17 1;"),
+    ("a year that is none, and no operation", "factors 1 2015;boats;7;9;", "refused 17 1;"),
+    ("nine factors, and a year that is none", "factors 9 2015;box;boats;", "refused 3 1;"),
+    ("a year with a zero in front", sisters(7, 9, "factors 1 02014;addc 1 0;box;7 9;"), "refused 2 1;"),
 ]
 
 APART = [(name, text(given), text(expected)) for name, given, expected in SISTERS]

@@ -5,13 +5,14 @@ name it was made under.
 import re
 from functools import lru_cache
 
-from errors import FLEET_ERRORS
+import years
+from errors import FLEET_ERRORS, YEAR_LOADING_ERRORS
 from fleets import BAD_FIELDS, BROKEN, MISSPELT, UNENDED, WAYS
 from reference.fleet import MOST_BOATS, MOST_INPUT, RECORD, Fleet, Report, fleet_printed, rated
 from reference.outcome import Refusal
 from reference.ranges import LIMIT
 from reference.rating import Result
-from reference.sheet import MOST_FACTORS, NUMERAL, REFERENCES, load, text_lines
+from reference.sheet import EARLIER, MOST_FACTORS, NUMERAL, PRESENT, REFERENCES, load, text_lines
 from reference.text import parted
 from reference.tidy import last_line
 from tally import Tally, difference
@@ -50,6 +51,12 @@ REPORT_RULES = [
     *(f"fleet: a high sum above 2^{power}" for power in (31, 32)), *(f"fleet: a low sum below -2^{power}" for power in (31, 32)),
 ]
 
+YEAR_RULES = years.rules_of("fleet") + [
+    *(f"fleet: 2014, {rule}" for rule in (
+        "a boat accepted", *(f"a boat refused under {number}" for number in (9, 11, 12)), "a boat refused under 12, and accepted in 2016",
+        "every boat as in 2016")),
+]
+
 EDGE_RULES = [
     "fleet: no boats", "fleet: 1,000 boats", "fleet: the longest page, 97,267 bytes", "fleet: 1,000 times the limit", "fleet: 1,000 times minus the limit",
 ]
@@ -64,9 +71,16 @@ def remembered(sheet, ends):
 RIGHT = Fleet(remembered)
 
 
+def loading_by(wrong):
+    """The right rules but for those of loading."""
+    rules = Fleet(remembered)
+    rules.loading = wrong
+    return rules
+
+
 class FleetComparison(Tally):
-    rules = LOADING_RULES + LIST_RULES + EDGE_RULES + REPORT_RULES
-    errors = FLEET_ERRORS
+    rules = LOADING_RULES + LIST_RULES + EDGE_RULES + REPORT_RULES + YEAR_RULES
+    errors = FLEET_ERRORS + YEAR_LOADING_ERRORS
 
     def __init__(self, fleet, rate_many=None):
         super().__init__()
@@ -96,7 +110,11 @@ class FleetComparison(Tally):
             self.note_list(text, faults)
         else:
             complaint += "--- refused with 14, which nothing is due for\n"
-        self.catch_errors(ours, lambda wrong: fleet_printed(wrong(remembered).run(text)))
+        given = parted(text, b"boats")[0]
+        self.met.update(years.met("fleet", given, answer))
+        if years.THIRD_FIELD.match(given):
+            self.catch_errors(ours, lambda wrong: fleet_printed(loading_by(wrong).run(text)), YEAR_LOADING_ERRORS)
+        self.catch_errors(ours, lambda wrong: fleet_printed(wrong(remembered).run(text)), FLEET_ERRORS)
         self.judge(name, text, complaint)
 
     def note_loading(self, text, refusal, faults):
@@ -178,6 +196,16 @@ class FleetComparison(Tally):
         self.met.update(rule for rule, holds in conditions.items() if holds)
         if accepted:
             self.note_greatest(RIGHT.accepted(ratings), refused)
+        if sheet.year == EARLIER:
+            present = [RIGHT.rating(sheet._replace(year=PRESENT), boat) for boat in boats]
+            conditions = {
+                "fleet: 2014, a boat accepted": accepted,
+                **{f"fleet: 2014, a boat refused under {number}": True for number in refused},
+                "fleet: 2014, a boat refused under 12, and accepted in 2016": any(
+                    isinstance(ours, Refusal) and ours.number == 12 and isinstance(theirs, Result) for ours, theirs in zip(ratings, present)),
+                "fleet: 2014, every boat as in 2016": boats and RIGHT.figures(present) == report,
+            }
+            self.met.update(rule for rule, holds in conditions.items() if holds)
 
     def note_greatest(self, accepted, refused):
         """Where the greatest high end stands among the accepted boats, which are given by their positions."""

@@ -3,11 +3,13 @@
 Two sorts: random ones (`case`), and one for each way in which a list can be refused or come to an edge (`cases`).
 """
 from generate import Growing, damaged, loaded, long, magnitude, misplaced
-from orders import BEYOND, CONSTANT, COUNT, EXPONENT, FORM, MULTIPLIER, NONE, REFERENCE, SHEET, broken
+from orders import BEYOND, CONSTANT, COUNT, EXPONENT, FORM, MULTIPLIER, NONE, REFERENCE, SHEET, YEAR, broken
 from reference.fleet import MOST_BOATS, MOST_INPUT, RECORD
 from reference.ranges import LIMIT, UNIT, Range
-from reference.sheet import MOST_FACTORS, MOST_LINES, Operation, Sheet, sheet_text
+from reference.sheet import EARLIER, MOST_FACTORS, MOST_LINES, PRESENT, Operation, Sheet, sheet_text
 from reference.text import parted
+from years import cases as year_cases
+from years import dated
 
 PARTING = b"boats\n"
 KEPT = Sheet(1, (Operation("addc", (1, 0)),))  # the premium is the factor itself
@@ -155,7 +157,7 @@ KINDS = [(mixed, 36), (tied, 9), (negative, 8), (small, 6), (large, 6), (edged, 
 def case(rng):
     """A kind's name and an input of it."""
     kind = rng.choices([kind for kind, _ in KINDS], [weight for _, weight in KINDS])[0]
-    return f"fleet, {kind.__name__}", kind(rng)
+    return f"fleet, {kind.__name__}", dated(rng, kind(rng))
 
 
 # ---- lists of another form
@@ -284,7 +286,7 @@ def byte_cases(rng):
 # what is broken for each refusal of loading (`orders.broken`): in an operation line, and elsewhere
 BROKEN = {
     1: ([], [SHEET]), 2: ([{FORM}], []), 3: ([], [COUNT]), 4: ([{BEYOND}], []), 5: ([{REFERENCE}], []), 6: ([{EXPONENT}], []), 7: ([{CONSTANT}], []),
-    15: ([{MULTIPLIER}], []),
+    15: ([{MULTIPLIER}], []), 17: ([], [YEAR]),
 }
 
 
@@ -301,7 +303,20 @@ def refused_cases(rng):
         yield f"fleet, {number} over 14 (no line)", sheet
 
 
+def dated_cases(rng):
+    """A page for each field that can stand behind the number of factors, and boats that only 2014 refuses: the bends of two sums of squares are added."""
+    for name, text in year_cases(rng, tied(rng)):
+        yield f"fleet, {name}", text
+    factors = rng.randint(2, 4)
+    growing = Growing([Range(0, 0)] * factors)
+    bend = rng.randint(LIMIT // 4 + 1, LIMIT // 2)
+    growing.add_up([growing.appended("mulc", growing.appended("pow", a, 2), bend) for a in range(1, factors + 1)])
+    for year in (EARLIER, PRESENT):
+        boats = [boat(rng, [rng.randint(-9, 9) for _ in range(factors)]) for _ in range(rng.randint(1, 4))]
+        yield f"fleet, bends added up in {year}", page_text(growing.sheet()._replace(year=year), boats)
+
+
 def cases(rng):
-    """An input for each way of being refused, and for each edge."""
-    for kind in (malformed_cases, parting_cases, number_cases, byte_cases, refused_cases):
+    """An input for each way of being refused, for each edge, and for each field of a first line."""
+    for kind in (malformed_cases, parting_cases, number_cases, byte_cases, refused_cases, dated_cases):
         yield from kind(rng)

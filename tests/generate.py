@@ -1,11 +1,12 @@
-"""Random inputs for `rate`: accepted ones, ones at the brink of a refusal, and damaged ones."""
+"""Random inputs for `rate`: accepted ones, ones at the brink of a refusal, and damaged ones. A third of the sheets is made for 2014."""
 from math import isqrt
 
 from reference.outcome import Refused
 from reference.ranges import LIMIT, UNIT, Range
 from reference.rating import SPECIAL_LIMIT, Result, Rules
-from reference.sheet import MOST_LINES, REFERENCES, Loading, Operation, Sheet, sheet_text
+from reference.sheet import MOST_LINES, PRESENT, REFERENCES, Loading, Operation, Sheet, sheet_text
 from reference.text import run
+from years import named, some_year
 
 NAMES = ("add", "mul", "addc", "mulc", "pow", "inv")
 
@@ -60,10 +61,10 @@ def some_range(rng):
 class Growing:
     """A sheet that loads and rates with its ranges, grown a line at a time."""
 
-    def __init__(self, ranges):
+    def __init__(self, ranges, year=PRESENT):
         self.ranges = ranges
-        self.rules = Rules(len(ranges))
-        self.lines = [self.rules.factor(a, r) for a, r in enumerate(ranges)]
+        self.rules = Rules(len(ranges), year=year)
+        self.lines = [self.rules.factor_line(a, r) for a, r in enumerate(ranges)]
         self.operations = []
         self.unused = set(range(1, len(ranges) + 1))
 
@@ -111,11 +112,11 @@ class Growing:
     def sheet(self):
         if not self.operations:
             self.append("addc", 1, 0)  # accepted with any ranges
-        return Sheet(len(self.ranges), tuple(self.operations))
+        return Sheet(len(self.ranges), tuple(self.operations), self.rules.year)
 
 
 def followed_by(sheet, operation):
-    return Sheet(sheet.factors, sheet.operations + (operation,))
+    return sheet._replace(operations=sheet.operations + (operation,))
 
 
 def some_operation(rng, reference):
@@ -132,7 +133,7 @@ def some_operation(rng, reference):
 
 def accepted(rng, factors, count):
     """A sheet of about `count` codelist lines on random ranges."""
-    growing = Growing([some_range(rng) for _ in range(factors)])
+    growing = Growing([some_range(rng) for _ in range(factors)], some_year(rng))
     near = rng.choice((0.0, 0.3, 0.6, 0.95))
     tries = 4 * count
     while len(growing.lines) < count and tries:
@@ -149,7 +150,7 @@ def small(rng):
 def steep(rng):
     """Large slopes on ranges near 0: the sums of squares and the root of Cross come to the limit before the value does."""
     factors = rng.randint(2, 8)
-    growing = Growing([Range(*sorted(rng.randint(-3, 3) for _ in range(2))) for _ in range(factors)])
+    growing = Growing([Range(*sorted(rng.randint(-3, 3) for _ in range(2))) for _ in range(factors)], some_year(rng))
     terms = []
     for _ in range(rng.randint(2, 5)):
         if growing.append("mulc", rng.randint(1, factors), rng.choice((-1, 1)) * magnitude(rng)):
@@ -171,7 +172,7 @@ def steep(rng):
 def prescribed(rng):
     """Two lines c + sum of (b x_a + a x_a^2) at and near 0, so that V, G and E are each of any size, and an operation on them."""
     factors = rng.choice((1, 1, 2, 3))
-    growing = Growing([Range(-rng.randrange(2), rng.randrange(2)) for _ in range(factors)])
+    growing = Growing([Range(-rng.randrange(2), rng.randrange(2)) for _ in range(factors)], some_year(rng))
 
     def number():
         return rng.choice((-1, 1)) * rng.choice((magnitude(rng), rng.randint(1, 5 * UNIT), rng.randint(UNIT, LIMIT)))
@@ -215,13 +216,13 @@ def blind(rng):
     for k in range(factors, max(count, factors + 1)):
         name, *numbers = some_operation(rng, lambda: rng.randint(max(1, k - 2), k) if rng.random() < 0.5 else rng.randint(1, k))
         operations.append(Operation(name, tuple(numbers)))
-    return input_text(Sheet(factors, tuple(operations)), [some_range(rng) for _ in range(factors)])
+    return input_text(Sheet(factors, tuple(operations), some_year(rng)), [some_range(rng) for _ in range(factors)])
 
 
 def sums(rng):
     """Terms of one factor or two each, added up: bends that share factors and bends that do not."""
     factors = rng.randint(1, 8)
-    growing = Growing([some_range(rng) for _ in range(factors)])
+    growing = Growing([some_range(rng) for _ in range(factors)], some_year(rng))
     terms = []
     for _ in range(rng.randint(1, 6)):
         i, j = rng.randint(1, factors), rng.randint(1, factors)
@@ -280,7 +281,7 @@ def at_brink(rng, sheet, ranges):
 
         def with_number(c):
             operations = sheet.operations[:k] + (Operation(name, (i, c)),) + sheet.operations[k + 1:]
-            return input_text(Sheet(sheet.factors, operations), ranges)
+            return input_text(sheet._replace(operations=operations), ranges)
     else:
         k = rng.randrange(sheet.factors)
         start = ranges[k].high
@@ -333,7 +334,7 @@ def squares_at_limit(rng):
         append("pow", line, 2)
     else:
         append("inv", append("addc", line, rng.choice((-1, 1)) * rng.randint(UNIT, LIMIT)))
-    return input_text(Sheet(factors, tuple(operations)), [Range(0, 0)] * factors)
+    return input_text(Sheet(factors, tuple(operations), some_year(rng)), [Range(0, 0)] * factors)
 
 
 def unsloped(rng):
@@ -343,7 +344,7 @@ def unsloped(rng):
     a, powered = rng.randint(1, factors), rng.random() < 0.5
     if powered:
         ranges[a - 1] = Range(0, 0)
-    growing = Growing(ranges)
+    growing = Growing(ranges, some_year(rng))
     i = growing.appended("pow", a, rng.randint(2, 8)) if powered else growing.less_itself(a)
     j = growing.appended("add", *rng.sample(range(1, factors + 1), 2))
     if rng.random() < 0.6:
@@ -367,9 +368,10 @@ def of_one_factor(rng, growing, a):
 
 
 def special(rng):
-    """A product of two lines of one factor each: mostly of two different ones, at times with a third one in it, or with a line behind it."""
+    """A product of two lines of one factor each: mostly of two different ones, at times with a third one in it, or with a line behind it. In 2014 these
+    are products as any others; so are those of the next three kinds."""
     factors = rng.choice((2, 2, 2, 3, 4, 8))
-    growing = Growing([some_range(rng) for _ in range(factors)])
+    growing = Growing([some_range(rng) for _ in range(factors)], some_year(rng))
     a, b = rng.sample(range(1, factors + 1), 2)
     i, j = of_one_factor(rng, growing, a), of_one_factor(rng, growing, b if rng.random() < 0.9 else a)
     if rng.random() < 0.1 and growing.append("add", i, rng.randint(1, factors)):
@@ -383,7 +385,7 @@ def special(rng):
 
 def special_far(rng):
     """A product of two such lines, both bent, with values so far from 0 that A and B outweigh C: mostly the bend has one sign."""
-    growing = Growing([Range(*sorted(rng.randint(-UNIT, UNIT) for _ in range(2))) for _ in range(2)])
+    growing = Growing([Range(*sorted(rng.randint(-UNIT, UNIT) for _ in range(2))) for _ in range(2)], some_year(rng))
 
     def operand(a):
         scaled = growing.appended("mulc", growing.appended("pow", a, rng.choice((2, 2, 4))), rng.choice((-1, 1)) * rng.randint(1, UNIT))
@@ -402,7 +404,7 @@ def near_special_limit(rng):
 def special_at_limit(rng):
     """A product of v + g x + (e/2) x^2 and w + h y + (f/2) y^2 at 0, with one of A = w e, B = v f and C = g h, or more, next to their limit."""
     factors = rng.choice((2, 2, 3))
-    growing = Growing([Range(0, 0)] * factors)
+    growing = Growing([Range(0, 0)] * factors, some_year(rng))
     (v, g, e), (w, h, f) = ([rng.choice((0, rng.randint(-999, 999))) for _ in range(3)] for _ in range(2))
     for name in rng.sample("ABC", rng.choice((1, 1, 1, 2, 3))):
         if name == "A":
@@ -435,7 +437,7 @@ def special_end_at_limit(rng):
         lines = [("pow", (1, 2)), ("mulc", (3, UNIT // 2)), ("mulc", (4, second)), ("mul", rng.choice(((5, 2), (2, 5))))]
     else:
         lines = [("pow", (1, 2)), ("mulc", (2, second)), ("mul", rng.choice(((3, 4), (4, 3))))]
-    sheet = Sheet(2, tuple(Operation(*line) for line in lines))
+    sheet = Sheet(2, tuple(Operation(*line) for line in lines), some_year(rng))
     return input_text(sheet, [zero, wide] if bend else [wide, zero])
 
 
@@ -539,7 +541,7 @@ def long(rng):
         operations = [Operation("addc", (rng.randint(1, factors), rng.randint(-9, 9))) for _ in range(count)]
         if rng.random() < 0.2:
             operations[-1] = Operation("inv", (rng.choice((0, 65, 99)),))
-        text = input_text(Sheet(factors, tuple(operations)), [Range(-1, 1)] * factors)
+        text = input_text(Sheet(factors, tuple(operations), some_year(rng)), [Range(-1, 1)] * factors)
         return text.replace(b"addc", b"addd") if rng.random() < 0.1 else text
     if choice == 1:
         length = rng.choice((4095, 4096, 4097))
@@ -569,4 +571,4 @@ def loaded(rng, weights):
 def case(rng):
     """A kind's name and an input of it."""
     kind = rng.choices([kind for kind, _ in KINDS], [weight for _, weight in KINDS])[0]
-    return kind.__name__, kind(rng)
+    return kind.__name__, named(rng, kind(rng))

@@ -1,13 +1,14 @@
 """The order of refusals: which conditions hold of one input at once, and inputs of which two hold.
 
 01: "Loading: 1 first, then text lines from the top, within a line in the order 2, 3, 4, 5, 6, 7; a sheet without operations is found last.
-Rating: 10, 8, 9 (lowest factor), then codelist lines in order, 11 before 12." 02, request 5: 15 is "checked right after 7 in its line".
+Rating: 10, 8, 9 (lowest factor), then codelist lines in order, 11 before 12." 02, request 5: 15 is "checked right after 7 in its line"; request 9: 17
+is given at "text line 1, after 3", and so before all that the operation lines are refused for, and before 4 for want of one.
 
 A program that tests two of them the other way round is told from the right one only by an input of which both conditions hold. So every pair
 that can meet is listed here (`ORDERS`), an input of each is made, and the comparison fails where one was never met. Pairs that cannot meet:
-3 with 4 to 7 or 15 in one line (only the first line has a count, and it has nothing else), 6 with 7 or 15 in one line (an operation has an exponent
+3 or 17 with 4 to 7 or 15 in one line (only the first line has a count and a year, and it has nothing else), 6 with 7 or 15 in one line (an operation has an exponent
 or a constant), and 7 with 15 in one line (0 is within the limit): "right after 7" shows as behind 2, 4 and 5. 11 and 12 can meet in one line: Sq of
-the slopes needs no inverse. 10 comes up in no input of the program `rate`, which loads a sheet before it rates: crates/engine_calls has it. 16, between
+the slopes, and Λs of 2014, need no inverse. 10 comes up in no input of the program `rate`, which loads a sheet before it rates: crates/engine_calls has it. 16, between
 loading and 8, comes up in inputs of the program `cut` only: cutting.py has its pairs. 8 and 9 of two boats, behind all of these, come up in inputs of
 `sisters` only: sister_boats.py has theirs.
 """
@@ -17,12 +18,14 @@ from typing import NamedTuple
 from reference.outcome import Refused
 from reference.ranges import LIMIT, PastLimit, Range
 from reference.rating import Rules
-from reference.sheet import FIRST_LINE, MOST_BYTES, MOST_FACTORS, MOST_LINES, NUMERAL, OPERATION, REFERENCES, Operation, text_lines
+from reference.sheet import (
+    EARLIER, FIRST_LINE, MOST_BYTES, MOST_FACTORS, MOST_LINES, NUMERAL, OPERATION, PRESENT, REFERENCES, Operation, text_lines)
 from reference.text import BOX_LINE, MOST_INPUT, parted
+from years import other_year, some_fault, some_year
 
 # The kinds of a refusal that are told apart: 2 by the line's form or by its missing byte 10, 4 by its line or for want of one, and so on.
 INPUT, SHEET, FORM, END, COUNT, BEYOND, NONE = "1 (input)", "1 (sheet)", "2 (form)", "2 (byte 10)", "3", "4", "4 (no operation)"
-REFERENCE, EXPONENT, CONSTANT, MULTIPLIER, BOX_FORM, BOX_COUNT = "5", "6", "7", "15", "8 (form)", "8 (number)"
+YEAR, REFERENCE, EXPONENT, CONSTANT, MULTIPLIER, BOX_FORM, BOX_COUNT = "17", "5", "6", "7", "15", "8 (form)", "8 (number)"
 TURNED, TOO_FAR, DIVISOR, PAST = "9 (low above high)", "9 (limit)", "11", "12"
 
 
@@ -55,8 +58,13 @@ def loosely(line):
     return Loose(word, [int(field) if re.fullmatch(NUMERAL, field) else None for field in fields])
 
 
+def year_named(numbers):
+    """The year that a first line names, by its numbers; None where it names none that can be read."""
+    return numbers[1] if len(numbers) > 1 else None
+
+
 def line_kinds(line, place, ended, factors):
-    """What a text line breaks, in the order 2 to 7, 15. A field is looked at even where another one spoils the line's form."""
+    """What a text line breaks, in the order 2, 3, 17, 4 to 7, 15. A field is looked at even where another one spoils the line's form."""
     word, numbers = loosely(line)
     if not (FIRST_LINE if place == 1 else OPERATION).fullmatch(line):
         yield FORM
@@ -65,6 +73,8 @@ def line_kinds(line, place, ended, factors):
     if place == 1:
         if word == b"factors" and factors is not None and not 1 <= factors <= MOST_FACTORS:
             yield COUNT
+        if word == b"factors" and year_named(numbers) not in (None, PRESENT, EARLIER):
+            yield YEAR
         return
     if factors is None:
         return
@@ -86,10 +96,10 @@ def line_kinds(line, place, ended, factors):
             yield MULTIPLIER
 
 
-def rated_kinds(factors, lines, ranges):
+def rated_kinds(factors, year, lines, ranges):
     """Refusals 11 and 12 of every line whose operands are there, beyond the first one that is refused, too."""
-    rules = Rules(factors)
-    known = [None if r is None else rules.factor(a, r) for a, r in enumerate(ranges)]
+    rules = Rules(factors, year=year)
+    known = [None if r is None else rules.factor_line(a, r) for a, r in enumerate(ranges)]
     for text in lines[:MOST_LINES]:
         form = OPERATION.fullmatch(text)
         if form is None:
@@ -112,9 +122,12 @@ def rated_kinds(factors, lines, ranges):
 
 
 def sq_passes(rules, line):
-    """Beside refusal 11 refusal 12 can be due in one line, by a step that needs no inverse: Sq of the slopes."""
+    """Beside refusal 11 refusal 12 can be due in one line, by a step that needs no inverse: Sq of the slopes, and Λs in 2014."""
     try:
-        rules.sq(line.slopes, line.depends, "inv.Sq")
+        if rules.year == EARLIER:
+            rules.lambda_s(line.slopes, "2014.inv.Λs")
+        else:
+            rules.sq(line.slopes, line.depends, "inv.Sq")
     except PastLimit:
         return True
     return False
@@ -129,17 +142,18 @@ def held(text):
         yield Held(SHEET, 0, "bytes", 1)
     lines, ended = text_lines(sheet)
     lines = lines or [b""]
-    count = loosely(lines[0]).numbers[:1]
-    factors = count[0] if count and count[0] is not None else None
+    numbers = loosely(lines[0]).numbers
+    factors = numbers[0] if numbers else None
+    year = EARLIER if year_named(numbers) == EARLIER else PRESENT
     for place, line in enumerate(lines, 1):
         for kind in line_kinds(line, place, ended or place < len(lines), factors):
             yield Held(kind, place, "text line", place)
     if not any(OPERATION.fullmatch(line) for line in lines[1:]):
         yield Held(NONE, 1, "last", 0)
-    yield from held_of_box(factors, lines, box)
+    yield from held_of_box(factors, year, lines, box)
 
 
-def held_of_box(factors, lines, box):
+def held_of_box(factors, year, lines, box):
     """Refusals 8 to 12, of the box lines that can be read."""
     rows, ended = text_lines(box or b"")
     forms = [BOX_LINE.fullmatch(row) for row in rows]
@@ -155,7 +169,7 @@ def held_of_box(factors, lines, box):
             yield Held(bad, factor, "factor", factor)
         ranges.append(None if bad else r)
     if factors is not None and 1 <= factors <= MOST_LINES:
-        yield from rated_kinds(factors, lines[1:], (ranges + [None] * factors)[:factors])
+        yield from rated_kinds(factors, year, lines[1:], (ranges + [None] * factors)[:factors])
 
 
 # ---- the orders
@@ -187,6 +201,19 @@ def some_damage(rng, fields, needed):
     return fields + [rng.choice((b"", b"1", b"x"))]
 
 
+def some_first_line(rng, count, kinds):
+    """The fields of a first line that breaks those kinds: of either year, if it is not for its year that it is refused."""
+    year = other_year(rng) if YEAR in kinds else some_year(rng)
+    fields = [b"factors", b"%d" % count]
+    if year != PRESENT or rng.random() < 0.3:
+        fields.append(b"%d" % year)
+    if FORM not in kinds:
+        return fields
+    if YEAR in kinds or (len(fields) == 3 and rng.random() < 0.5):
+        return fields + [rng.choice((b"", b"1", b"x", b"2014"))]
+    return fields[:2] + [some_fault(rng)]
+
+
 def bad_line(rng, kinds, own):
     """An operation line, the codelist line `own`, that breaks those rules and no other but by its place."""
     names = ["pow"] if EXPONENT in kinds else ["mulc"] if MULTIPLIER in kinds else ["addc", "mulc"] if CONSTANT in kinds else list(REFERENCES)
@@ -214,7 +241,7 @@ def broken(rng, *lines, also=()):
     """
     factors = rng.randint(4, 7)
     count = rng.choice((9, 12)) if COUNT in also else factors
-    first = [b"factors", b"%d" % count]
+    first = some_first_line(rng, count, also)
     rows = []
 
     def good():
@@ -222,8 +249,6 @@ def broken(rng, *lines, also=()):
 
     def own():
         return count + len(rows) + 1
-    if FORM in also:
-        first = some_damage(rng, first, 2)
     if NONE not in also:
         for _ in range(rng.randint(1, 3)):
             good()
@@ -266,37 +291,41 @@ def box_rows(rng, factors, also):
 
 def makers():
     """Each order that can come up, with what is to be broken for it: the kinds of its lines and those elsewhere."""
-    one_line = [COUNT, BEYOND, REFERENCE, EXPONENT, CONSTANT, MULTIPLIER]
+    one_line = [BEYOND, REFERENCE, EXPONENT, CONSTANT, MULTIPLIER]
     for two in (FORM, END):
-        for other in one_line:
-            yield f"order in a line: {two} over {other}", (([], [two, COUNT, NONE]) if other == COUNT else ([{two, other}], []))
-    for first, others in ((BEYOND, one_line[2:]), (REFERENCE, one_line[3:])):
+        for other in (COUNT, YEAR, *one_line):
+            yield f"order in a line: {two} over {other}", (([], [two, other, NONE]) if other in (COUNT, YEAR) else ([{two, other}], []))
+    yield f"order in a line: {COUNT} over {YEAR}", ([], [COUNT, YEAR])
+    yield f"order in a line: {COUNT} over {YEAR}", ([], [COUNT, YEAR, NONE])
+    for first, others in ((BEYOND, one_line[1:]), (REFERENCE, one_line[2:])):
         for other in others:
             yield f"order in a line: {first} over {other}", ([{first, other}], [])
     yield f"order in a line: {DIVISOR} over {PAST}", ([{DIVISOR, PAST}], [])
     later = [FORM, BEYOND, REFERENCE, EXPONENT, CONSTANT, MULTIPLIER]
-    for first in [FORM, COUNT, *later[1:]]:
+    for first in [FORM, COUNT, YEAR, *later[1:]]:
         for other in later:
             name = f"order of text lines: {number_of(first)} before {number_of(other)}"
-            yield name, (([{other}], [COUNT]) if first == COUNT else ([{first}, {other}], []))
+            yield name, (([{other}], [first]) if first in (COUNT, YEAR) else ([{first}, {other}], []))
     for other in later:
         yield f"order of text lines: 2 before {number_of(other)}", ([{other}], [FORM])
     yield f"order: {FORM} over {NONE}", ([{FORM}], [NONE])
     yield f"order: {END} over {NONE}", ([], [END, NONE])
     yield f"order: {COUNT} over {NONE}", ([], [COUNT, NONE])
+    yield f"order: {YEAR} over {NONE}", ([], [YEAR, NONE])
     ranges = [(BOX_FORM, [], [BOX_FORM]), (BOX_COUNT, [], [BOX_COUNT]), (TURNED, [], [TURNED]), (TOO_FAR, [], [TOO_FAR]),
               (DIVISOR, [{DIVISOR}], []), (PAST, [{PAST}], [])]
     for first in (INPUT, SHEET):
         for other in later:
             yield f"order: {first} over {number_of(other)}", ([{other}], [first])
         yield f"order: {first} over {COUNT}", ([], [first, COUNT])
+        yield f"order: {first} over {YEAR}", ([], [first, YEAR])
         yield f"order: {first} over {NONE}", ([], [first, NONE])
-    for first in (INPUT, SHEET, FORM, COUNT, BEYOND, REFERENCE, EXPONENT, CONSTANT, MULTIPLIER, NONE):
+    for first in (INPUT, SHEET, FORM, COUNT, YEAR, BEYOND, REFERENCE, EXPONENT, CONSTANT, MULTIPLIER, NONE):
         for other, lines, also in ranges:
             if first == NONE and lines:
                 continue
             name = first if first in (INPUT, SHEET, NONE) else number_of(first)
-            elsewhere = first in (INPUT, SHEET, COUNT, NONE)
+            elsewhere = first in (INPUT, SHEET, COUNT, YEAR, NONE)
             what = (lines, also + [first]) if elsewhere else (lines + [{first}], also)
             yield f"order: {name} over {number_of(other)}", what
     for first in (BOX_FORM, BOX_COUNT, TURNED, TOO_FAR):

@@ -12,8 +12,10 @@ from generate import Growing, box_text, input_text, magnitude, scratched
 from orders import BOX_COUNT, BOX_FORM, DIVISOR, END, INPUT, NONE, PAST, TOO_FAR, TURNED, broken, loosely
 from orders import cases as order_cases
 from reference.ranges import LIMIT, UNIT, Range
-from reference.sheet import MOST_BYTES, MOST_FACTORS, MOST_LINES, sheet_text, text_lines
+from reference.sheet import EARLIER, MOST_BYTES, MOST_FACTORS, MOST_LINES, PRESENT, sheet_text, text_lines
 from reference.text import BOX_LINE, MOST_INPUT, parted
+from years import cases as year_cases
+from years import dated
 
 GOOD = input_text(KEPT, [Range(7, 9)])
 
@@ -254,7 +256,7 @@ KINDS = [
 def case(rng):
     """A kind's name and an input of it."""
     kind = rng.choices([kind for kind, _ in KINDS], [weight for _, weight in KINDS])[0]
-    return f"sisters, {kind.__name__}", kind(rng)
+    return f"sisters, {kind.__name__}", dated(rng, kind(rng))
 
 
 # ---- boat lines for any input of `rate`
@@ -520,7 +522,20 @@ def largest_cases(rng):
                 yield "sisters, sums next to so many bits", sisters_text(steepest(factors, 8), ranges[:factors], (first, second))
 
 
+def dated_cases(rng):
+    """A class for each field that can stand behind the number of factors, and one that only 2014 refuses: the bends of two squares are added."""
+    for name, text in year_cases(rng, linear(rng)):
+        yield f"sisters, {name}", text
+    factors = rng.randint(2, 4)
+    growing = Growing([Range(-rng.randint(0, 9), rng.randint(0, 9)) for _ in range(factors)])
+    bend = rng.randint(LIMIT // 4 + 1, LIMIT // 2)
+    growing.add_up([growing.appended("mulc", growing.appended("pow", a, 2), bend) for a in range(1, factors + 1)])
+    for year in (EARLIER, PRESENT):
+        boats = some_boats(rng, growing.ranges)
+        yield f"sisters, bends added up in {year}", sisters_text(growing.sheet()._replace(year=year), growing.ranges, boats)
+
+
 def cases(rng):
-    """An input for each way of being refused, for each order of two refusals, and for each edge."""
-    for kind in (shape_cases, refusal_cases, ordered_cases, nine_cases, line_cases, length_cases, largest_cases):
+    """An input for each way of being refused, for each order of two refusals, for each edge, and for each field of the sheet's first line."""
+    for kind in (shape_cases, refusal_cases, ordered_cases, nine_cases, line_cases, length_cases, largest_cases, dated_cases):
         yield from kind(rng)

@@ -10,13 +10,15 @@ import re
 from fractions import Fraction
 from functools import lru_cache
 
-from errors import SISTER_BOAT_ERRORS, SISTER_LIMIT_ERRORS, SISTER_LINE_ERRORS, in_32_bits
+import years
+from errors import SISTER_BOAT_ERRORS, SISTER_LIMIT_ERRORS, SISTER_LINE_ERRORS, YEAR_LOADING_ERRORS, in_32_bits
 from orders import BOX_COUNT, BOX_FORM, DIVISOR, INPUT, PAST, TOO_FAR, TURNED, held, loosely, number_of
 from pairs import FAR, MISSPELT, NEXT
 from reference.exact import TooLarge, exact_difference, some_point
 from reference.outcome import Refusal
 from reference.ranges import LIMIT, UNIT, Range
-from reference.sheet import MOST_BYTES, MOST_FACTORS, MOST_LINES, NUMERAL, REFERENCES, text_lines
+from reference.rating import Result
+from reference.sheet import EARLIER, MOST_BYTES, MOST_FACTORS, MOST_LINES, NUMERAL, PRESENT, REFERENCES, text_lines
 from reference.sisters import Difference, Sisters, difference_printed, rated
 from reference.text import BOX_LINE, MOST_INPUT, parted
 from reference.tidy import last_line
@@ -29,7 +31,7 @@ EXCHANGED_SHARE = 0.3  # of the accepted inputs: by the program once more, the b
 FIELD = re.compile(NUMERAL)
 MOST_SHOWN = 20  # boat lines: there is no way that takes more
 EIGHT, NINE = "the boats' 8", "the boats' 9"
-LOADING = (*range(1, 8), 15)
+LOADING = (*range(1, 8), 15, 17)
 BOX_KINDS = (BOX_FORM, BOX_COUNT, TURNED, TOO_FAR, DIVISOR, PAST)
 SIGNS = {-1: "below 0", 0: "0", 1: "above 0"}
 SLOPES = ("above 0", "below 0", "across 0", "0 itself", "from 0 on", "up to 0")
@@ -127,6 +129,11 @@ EDGE_RULES = [
     "sisters: accepted, 64 codelist lines with 8 factors",
 ]
 
+YEAR_RULES = years.rules_of("sisters") + [
+    "sisters: 2014, limits, and the same in 2016", "sisters: 2014, limits, and 2016 refuses the class", "sisters: 2014, the class refused, and not in 2016",
+    "sisters: 2014, a boat outside", "sisters: 2014, exact",
+]
+
 
 @lru_cache(maxsize=64)
 def remembered(sheet, ends):
@@ -137,9 +144,16 @@ def remembered(sheet, ends):
 RIGHT = Sisters(remembered)
 
 
+def loading_by(wrong):
+    """The right rules but for those of loading."""
+    rules = Sisters(remembered)
+    rules.loading = wrong
+    return rules
+
+
 class SistersComparison(Tally):
-    rules = LIMIT_RULES + NINE_RULES + EIGHT_RULES + ORDER_RULES + EDGE_RULES
-    errors = SISTER_LIMIT_ERRORS + SISTER_BOAT_ERRORS + SISTER_LINE_ERRORS
+    rules = LIMIT_RULES + NINE_RULES + EIGHT_RULES + ORDER_RULES + EDGE_RULES + YEAR_RULES
+    errors = SISTER_LIMIT_ERRORS + SISTER_BOAT_ERRORS + SISTER_LINE_ERRORS + YEAR_LOADING_ERRORS
 
     def __init__(self, sisters):
         super().__init__()
@@ -161,6 +175,9 @@ class SistersComparison(Tally):
         if isinstance(answer, Refusal) or rng.random() < DUE_SHARE:
             complaint += self.order_complaint(text, answer)
         self.note_edges(text, answer)
+        self.note_year(text, answer)
+        if years.THIRD_FIELD.match(text):
+            self.catch_errors(ours, lambda wrong: difference_printed(loading_by(wrong).run(text)), YEAR_LOADING_ERRORS)
         if isinstance(answer, Difference):
             complaint += self.limits_complaint(rng, text, read(got))
             self.catch(text, ours, SISTER_LIMIT_ERRORS)
@@ -274,6 +291,21 @@ class SistersComparison(Tally):
         }
         self.met.update(rule for rule, holds in conditions.items() if holds)
 
+    def note_year(self, text, answer):
+        """What 02's request 9 is about: 2014 gives the limits of 2016, where the class is not refused in one of them."""
+        self.met.update(years.met("sisters", text, answer))
+        if isinstance(answer, Refusal) and answer.number not in (9, 12) or RIGHT.sheet(text).year != EARLIER:
+            return
+        sheet, ends = RIGHT.sheet(text), RIGHT.ends(text)
+        own, present = (remembered(of_year, tuple(ends)) for of_year in (sheet, sheet._replace(year=PRESENT)))
+        conditions = {
+            "sisters: 2014, limits, and the same in 2016": isinstance(answer, Difference) and isinstance(present, Result) and own.slopes == present.slopes,
+            "sisters: 2014, limits, and 2016 refuses the class": isinstance(answer, Difference) and isinstance(present, Refusal),
+            "sisters: 2014, the class refused, and not in 2016": isinstance(own, Refusal) and isinstance(present, Result),
+            "sisters: 2014, a boat outside": isinstance(own, Result) and isinstance(answer, Refusal),
+        }
+        self.met.update(rule for rule, holds in conditions.items() if holds)
+
     # ---- limits
 
     def limits_complaint(self, rng, text, got):
@@ -301,6 +333,8 @@ class SistersComparison(Tally):
             return "--- a divisor is 0 at one of the boats\n"
         units = exact * UNIT
         self.note("sisters: exact: the difference inside the limits")
+        if sheet.year == EARLIER:
+            self.note("sisters: 2014, exact")
         self.note_exact(boats, RIGHT.limits(result, *boats), units)
         if got is None or got.low <= units <= got.high:
             return ""

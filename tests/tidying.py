@@ -4,10 +4,11 @@ byte of which is compared.
 """
 import random
 
-from errors import LOADING_ERRORS, TIDY_ERRORS, ZERO_FIELD
+import years
+from errors import LOADING_ERRORS, TIDY_ERRORS, YEAR_LOADING_ERRORS, YEAR_TIDY_ERRORS, ZERO_FIELD
 from reference.outcome import Refusal, Refused
 from reference.rating import Result
-from reference.sheet import REFERENCES, load, sheet_text
+from reference.sheet import EARLIER, REFERENCES, load, sheet_text, sheet_text_with
 from reference.text import parted, printed, run
 from reference.tidy import Tidying, last_line, operation_at, tidy, tidy_printed
 from tally import Tally, difference
@@ -15,7 +16,7 @@ from tally import Tally, difference
 RIGHT = Tidying()
 BUFFER_SHARE = 0.2  # of the random sheets, tidied into a buffer of a length of its own
 
-LOADING = (*range(1, 8), 15)  # the refusals that loading gives, and tidying passes on
+LOADING = (*range(1, 8), 15, 17)  # the refusals that loading gives, and tidying passes on
 
 BUFFER_RULES = [
     *(f"tidy into: refused by loading, {number}, the buffer as it was" for number in LOADING),
@@ -35,16 +36,24 @@ TIDY_RULES = [
     "tidy: refused at a used line, at its new number", "tidy: accepted only because a dropped line was refused",
 ]
 
+# The last one is met where the sheet without the field is tidied, too.
+YEAR_RULES = years.rules_of("tidy") + [
+    *(f"tidy: {rule}" for rule in (
+        "2014 named as it came, a line dropped", "2014 named as it came, nothing dropped", "2016 no longer named, a line dropped",
+        "2016 no longer named, and nothing else dropped", "accepted as before in 2014", "refused at a used line in 2014, at its new number",
+        "the same with 2016 named and not named")),
+]
+
 
 class TidyComparison(Tally):
-    errors = TIDY_ERRORS + LOADING_ERRORS
+    errors = TIDY_ERRORS + YEAR_TIDY_ERRORS + LOADING_ERRORS + YEAR_LOADING_ERRORS
 
     def __init__(self, tidy, rate, into=None):
         super().__init__()
         self.tidy = tidy
         self.rate = rate
         self.into = into
-        self.rules = TIDY_RULES + (BUFFER_RULES if into else [])
+        self.rules = TIDY_RULES + YEAR_RULES + (BUFFER_RULES if into else [])
 
     def compare(self, name, text, outcome, expected=None, rng=None):
         """The sheet of one input of `rate`, and the outcome that the reference gives of the whole input."""
@@ -58,17 +67,34 @@ class TidyComparison(Tally):
             sheet = load(given)
         except Refused as refused:
             self.note(f"tidy: refused by loading, {refused.args[0].number}")
+            self.met.update(years.met("tidy", given, refused.args[0]))
         else:
             self.note_sheet(sheet)
+            self.met.update(years.met("tidy", given, None))
+            complaint += self.year_complaint(given, sheet, ours)
             self.catch_errors(ours, lambda wrong: sheet_text(wrong().tidied(sheet)), TIDY_ERRORS)
+            self.catch_errors(ours, lambda wrong: tidy_printed(given, wrong), YEAR_TIDY_ERRORS)
             if ours != given:  # where the two sheets are one, nothing is left to compare
                 complaint += difference(self.tidy, ours, ours)
                 complaint += self.rating_complaint(sheet, outcome, ours if box is None else ours + b"box\n" + box)
-        if ZERO_FIELD.search(given):
-            self.catch_errors(ours, lambda wrong: tidy_printed(given, loading=wrong), LOADING_ERRORS)
+        loading = (LOADING_ERRORS if ZERO_FIELD.search(given) else []) + (YEAR_LOADING_ERRORS if years.THIRD_FIELD.match(given) else [])
+        self.catch_errors(ours, lambda wrong: tidy_printed(given, loading=wrong), loading)
         if self.into and (rng is None or rng.random() < BUFFER_SHARE):
             complaint += self.buffer_complaint(given, ours)
         self.judge(name + ", tidied", given, complaint)
+
+    def year_complaint(self, given, sheet, ours):
+        """02, request 9: "A tidied sheet names the year only for 2014"; and with 2016 named a sheet is tidied as it is without."""
+        dropped = "a line dropped" if ours.count(b"\n") < given.count(b"\n") else None
+        if sheet.year == EARLIER:
+            self.note(f"tidy: 2014 named as it came, {dropped or 'nothing dropped'}")
+            return "" if ours.startswith(b"factors\t%d\t2014\n" % sheet.factors) else "--- 2014 not named\n"
+        complaint = "" if ours.startswith(b"factors\t%d\n" % sheet.factors) else "--- 2016 named\n"
+        if years.THIRD_FIELD.match(given):
+            self.note(f"tidy: 2016 no longer named, {dropped or 'and nothing else dropped'}")
+            self.note("tidy: the same with 2016 named and not named")
+            complaint += difference(self.tidy, sheet_text_with((), sheet), ours)
+        return complaint
 
     def buffer_complaint(self, given, ours):
         """The call with a buffer of its own length and bytes, none of them 0, since an argument of a program has none."""
@@ -104,6 +130,8 @@ class TidyComparison(Tally):
         refused, it may be accepted"; 8 and 9 ask only for the factors, all of which are kept."""
         if isinstance(before, Result):
             self.note("tidy: accepted as before")
+            if sheet.year == EARLIER:
+                self.note("tidy: accepted as before in 2014")
             return before
         number, place = before
         if number in (8, 9):
@@ -114,6 +142,8 @@ class TidyComparison(Tally):
             new = RIGHT.new_number(place, kept)
             if new != place:
                 self.note("tidy: refused at a used line, at its new number")
+                if sheet.year == EARLIER:
+                    self.note("tidy: refused at a used line in 2014, at its new number")
             return Refusal(number, new)
         if isinstance(ours, Result):
             self.note("tidy: accepted only because a dropped line was refused")
