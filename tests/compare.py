@@ -43,7 +43,7 @@ import years
 from cutting import CutComparison, read, sets_of_lines
 from errors import (
     ERRORS, LOADING_ERRORS, SPECIAL_ERRORS, SPECIAL_STEPS, STEPS, YEAR_ERRORS, YEAR_LOADING_ERRORS, YEAR_STEPS, ZERO_FIELD, AbsentEarlier,
-    CasesNotApplied, SquaresRoundedEachInCross, SquaresRoundedEachInSq, uncounted)
+    CasesNotApplied, SquaresRoundedEachInCross, SquaresRoundedEachInSq, uncounted, year_errors_of)
 from figures import APART, FIGURES, LIMITED, REPORTED, TIDIED
 from fleet_page import FleetComparison
 from generate import box_text, case, input_text
@@ -64,7 +64,7 @@ from tidying import TidyComparison
 
 EXAMPLES = Path(__file__).resolve().parent.parent / "examples"
 EXACT_SHARE = 0.5
-OTHER_YEAR_SHARE = 0.3
+OTHER_YEAR_SHARE = 0.15
 ORDER_ROUNDS = 3  # inputs for each order
 FLEET_ROUNDS = 3  # inputs for each way in which a list of boats is refused, and for each of its edges
 CUT_ROUNDS = 2  # inputs for each way in which a first line is refused, for each order behind one, and for each edge
@@ -173,8 +173,7 @@ class Comparison(Tally):
                 self.note_earlier(outcome)
             if rng is None or rng.random() < OTHER_YEAR_SHARE:
                 complaint += self.other_year_complaint(text, outcome)
-        loading = LOADING_ERRORS if ZERO_FIELD.search(text) else []
-        loading = loading + (YEAR_LOADING_ERRORS if years.THIRD_FIELD.match(text) else [AbsentEarlier])
+        loading = (LOADING_ERRORS if ZERO_FIELD.search(text) else []) + (year_errors_of(text) or [AbsentEarlier])
         self.catch_errors(ours, lambda wrong: printed(run(text, wrong.rules, loading=wrong).answer), loading)
         self.judge(name, text, complaint)
         return outcome
@@ -290,7 +289,7 @@ class Comparison(Tally):
             "both years: refused alike": all(refused) and earlier == present,
             "both years: 12 in 2014 only": refused == [True, False],
             "both years: 12 in 2016 only, by A, B or C": refused == [False, True],
-            "both years: 12 in 2014 at an earlier line": all(refused) and earlier.place < present.place,
+            "both years: 12 in 2014 at an earlier line": all(refused) and earlier.number == 12 and earlier.place < present.place,
         }
         if not any(refused):
             wider = earlier.full != present.full and earlier.full.low <= present.full.low and present.full.high <= earlier.full.high

@@ -10,7 +10,7 @@ from orders import BOX_COUNT, BOX_FORM, DIVISOR, END, INPUT, NONE, PAST, TOO_FAR
 from orders import cases as order_cases
 from reference.cut import MOST_DEPTH
 from reference.ranges import LIMIT, UNIT, Range
-from reference.sheet import MOST_BYTES, MOST_FACTORS, MOST_LINES, Operation, Sheet, sheet_text
+from reference.sheet import EARLIER, MOST_BYTES, MOST_FACTORS, MOST_LINES, PRESENT, Operation, Sheet, sheet_text
 from reference.text import MOST_INPUT
 from years import cases as year_cases
 from years import dated
@@ -446,9 +446,16 @@ def largest_cases(rng):
 
 
 def dated_cases(rng):
-    """A class for each field that can stand behind the number of factors."""
+    """A class for each field that can stand behind the number of factors, and one that only 2014 refuses, in its upper half: the bends of two fourth
+    powers are added, 12·c·x² each."""
     for name, text in year_cases(rng, narrowed(rng)):
         yield f"cut, {name}", text
+    c = rng.randint(29_000_000, 33_000_000)
+    operations = (("pow", (1, 4)), ("mulc", (3, c)), ("pow", (2, 4)), ("mulc", (5, c)), ("add", rng.choice(((4, 6), (6, 4)))))
+    sheet = Sheet(2, tuple(Operation(*operation) for operation in operations))
+    for year in (EARLIER, PRESENT):
+        for depth in (0, 1, 2):
+            yield f"cut, bends added up in {year}, depth {depth}", cut_text(depth, sheet._replace(year=year), [Range(0, 2 * UNIT)] * 2)
 
 
 def cases(rng):

@@ -12,7 +12,7 @@ from typing import NamedTuple, Union
 
 import years
 from cuts import MISSPELT, OUTSIDE
-from errors import CUT_ERRORS, FIRST_LINE_ERRORS, YEAR_LOADING_ERRORS, CutTowardZero, HighestOnEqualWidth
+from errors import CUT_ERRORS, FIRST_LINE_ERRORS, YEAR_LOADING_ERRORS, CutTowardZero, HighestOnEqualWidth, year_errors_of
 from orders import BOX_COUNT, BOX_FORM, DIVISOR, INPUT, PAST, TOO_FAR, TURNED, held, number_of
 from reference.cut import DEPTH_LINE, MOST_DEPTH, Cutting, rated
 from reference.exact import TooLarge, broken_at, some_point
@@ -27,6 +27,8 @@ from tally import Tally, difference, print_of, unlike
 EXACT_SHARE = 0.6  # of the accepted inputs
 DEEPER_SHARE = 0.5  # of the classes that are rated to a depth below 6: cut once more
 MANY_SHARE = 0.25  # of all inputs: by `cut_many`, too
+OTHER_YEAR_SHARE = 0.2  # of the classes of 2014 that are cut deeper than `FEW_PARTS`: beside what they would come to in 2016
+FEW_PARTS = 2
 
 HALVES = ("lower", "upper")
 LOADING = (*range(1, 8), 15, 17)
@@ -169,8 +171,7 @@ class CutComparison(Tally):
         self.note_edges(text, answer)
         sheet = parted(RIGHT.first_line(text)[1])[0]
         self.met.update(years.met("cut", sheet, answer))
-        if years.THIRD_FIELD.match(sheet):
-            self.catch_errors(ours, lambda wrong: printed(loading_by(wrong).run(text)), YEAR_LOADING_ERRORS)
+        self.catch_errors(ours, lambda wrong: printed(loading_by(wrong).run(text)), year_errors_of(sheet))
         if comes_to_parts(answer):
             complaint += self.class_complaint(rng, text, answer, read(got))
             self.catch_errors(ours, lambda wrong: printed(wrong(remembered).run(text)), CUT_ERRORS)
@@ -250,7 +251,7 @@ class CutComparison(Tally):
         self.note_class(sheet, whole)
         if whole.halves:
             self.note_halves(sheet, whole, uncut)
-        if sheet.year == EARLIER:
+        if sheet.year == EARLIER and (depth <= FEW_PARTS or rng.random() < OTHER_YEAR_SHARE):
             self.note_earlier(sheet, whole, uncut)
         complaint = sets_complaint(sheet, got) if isinstance(got, Result) else ""
         if isinstance(uncut, Result):

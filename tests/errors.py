@@ -24,6 +24,7 @@ from reference.sisters import Difference, Sisters
 from reference.text import MOST_INPUT as MOST_RATED
 from reference.text import parted
 from reference.tidy import Tidying, last_line, operation_at
+from years import THIRD_FIELD
 
 
 # ---- rating
@@ -922,6 +923,19 @@ class FifteenInRating(TimesZeroTaken):
     rules = TimesZeroInRating
 
 
+class TimesZeroInEarlier(WrongLoading):
+    """`mulc` by 0 taken in 2014, and request 5 in 2016 only."""
+    now = PRESENT
+
+    def year(self, field):
+        self.now = super().year(field)
+        return self.now
+
+    def check_multiplier(self, operation, codelist_line, place):
+        if self.now == PRESENT:
+            super().check_multiplier(operation, codelist_line, place)
+
+
 # A constant or an exponent that is written 0 or -0. The wrong rules below are tried where there is one: elsewhere no more than two of them can differ
 # from the right ones, those that refuse other constants, too.
 ZERO_FIELD = re.compile(rb"^(?:addc|mulc|pow)\t[^\t\n]*\t-?0(?:\t|$)", re.MULTILINE)
@@ -929,7 +943,7 @@ ZERO_FIELD = re.compile(rb"^(?:addc|mulc|pow)\t[^\t\n]*\t-?0(?:\t|$)", re.MULTIL
 LOADING_ERRORS = [
     TimesZeroTaken, PlusZeroRefused, PowerZeroRefused, FractionsRefused, NegativesRefused, MinusZeroTaken, TimesZeroInUse, TimesZeroAtTheEnd,
     FactorTimesZero, LineTimesZero, SevenForFifteen, FifteenAtZero, FifteenInCodelist, FifteenBeforeLastByte, FifteenBeforeForm, FifteenBeforeFour,
-    FifteenBeforeFive, FifteenAfterLines, FifteenInRating,
+    FifteenBeforeFive, FifteenAfterLines, FifteenInRating, TimesZeroInEarlier,
 ]
 
 
@@ -1204,35 +1218,33 @@ class SeventeenBeforeByte10(WrongLoading):
         return super().sheet(text + b"\n" if re.fullmatch(rb"factors\t[1-8]\t" + NUMERAL, text) else text)
 
 
-class TimesZeroInEarlier(WrongLoading):
-    """`mulc` by 0 taken in 2014, and request 5 in 2016 only."""
-    now = PRESENT
-
-    def year(self, field):
-        self.now = super().year(field)
-        return self.now
-
-    def check_multiplier(self, operation, codelist_line, place):
-        if self.now == PRESENT:
-            super().check_multiplier(operation, codelist_line, place)
-
-
 class AbsentEarlier(WrongLoading):
     """2014 taken where no year is named."""
     def year(self, field):
         return EARLIER if field is None else super().year(field)
 
 
-# Those that can differ only where there is a third field.
-YEAR_LOADING_ERRORS = [
+# Those that can differ only where one of the two years is named, and those that can only where there is another third field, or none that is a year.
+NAMED_YEAR_ERRORS = [PresentRefused, EarlierRefused, YearsExchanged, EarlierIgnored, ThirdFieldIgnored]
+
+OTHER_FIELD_ERRORS = [
     SeventeenBeforeThree, SeventeenAfterLines, SeventeenAfterFour, SeventeenInRating,
-    PresentRefused, EarlierRefused, YearsExchanged, EarlierIgnored, OthersPresent, OthersEarlier, BetweenEarlier, BetweenPresent, BeforeEarlier,
+    OthersPresent, OthersEarlier, BetweenEarlier, BetweenPresent, BeforeEarlier,
     AfterPresent, ZeroPresent, MinusIgnored, YearOf8Bits, YearOf16Bits, YearOf32Bits, FourDigits,
     TwoForSeventeen, ThreeForSeventeen, SeventeenAtZero, SeventeenForTwo,
-    ThirdFieldIgnored, NoNumeralIgnored, EmptyYearIgnored, YearZerosTaken, YearPlusTaken, YearBlanksSkipped, YearTabsSkipped, YearTabBehindSkipped,
+    NoNumeralIgnored, EmptyYearIgnored, YearZerosTaken, YearPlusTaken, YearBlanksSkipped, YearTabsSkipped, YearTabBehindSkipped,
     YearByte13Skipped, YearByte0Skipped, YearLettersIgnored, FourthFieldIgnored, LastYearTaken, YearDigitsDropped, SeventeenBeforeByte10,
-    TimesZeroInEarlier,
 ]
+
+YEAR_LOADING_ERRORS = NAMED_YEAR_ERRORS + OTHER_FIELD_ERRORS
+
+
+def year_errors_of(text):
+    """Of the wrong readings of a third field those that can differ in a sheet that begins with these bytes."""
+    line = text.partition(b"\n")[0]
+    if not THIRD_FIELD.match(line):
+        return []
+    return NAMED_YEAR_ERRORS if line.split(b"\t", 2)[2] in (b"%d" % EARLIER, b"%d" % PRESENT) else OTHER_FIELD_ERRORS
 
 
 # ---- tidying

@@ -360,6 +360,8 @@ BOTH_YEARS = [
     ("the root of two rounded sums in 2014, too", "factors 2;mulc 1 1;mulc 2 1;add 3 4;mulc 1 5000;mulc 2 5000;add 6 7;mul 5 8;box;0 0;0 0;",
      *["value 0 0;slope 1 0 0;slope 2 0 0;depends 1 2;bent 1 2;bend -71 73;full -71 73;"] * 2),
     ("times 0 in 2014, too", "factors 1;mulc 1 0;box;1 2;", "refused 15 2;", "refused 15 2;"),
+    ("12 in 2014 at an earlier line", "factors 2;pow 1 2;mulc 3 1000000000;pow 2 2;mulc 5 1000000000;add 4 6;inv 1;box;0 0;0 0;",
+     "refused 12 7;", "refused 11 8;"),
     ("11 in either year", "factors 1;inv 1;box;0 10000;", "refused 11 2;", "refused 11 2;"),
     ("12 in either year", "factors 1;inv 1;box;1 1;", "refused 12 2;", "refused 12 2;"),
     ("8 in either year", "factors 1;inv 1;box;", "refused 8 0;", "refused 8 0;"),

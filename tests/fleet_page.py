@@ -6,7 +6,7 @@ import re
 from functools import lru_cache
 
 import years
-from errors import FLEET_ERRORS, YEAR_LOADING_ERRORS
+from errors import FLEET_ERRORS, YEAR_LOADING_ERRORS, year_errors_of
 from fleets import BAD_FIELDS, BROKEN, MISSPELT, UNENDED, WAYS
 from reference.fleet import MOST_BOATS, MOST_INPUT, RECORD, Fleet, Report, fleet_printed, rated
 from reference.outcome import Refusal
@@ -54,7 +54,7 @@ REPORT_RULES = [
 YEAR_RULES = years.rules_of("fleet") + [
     *(f"fleet: 2014, {rule}" for rule in (
         "a boat accepted", *(f"a boat refused under {number}" for number in (9, 11, 12)), "a boat refused under 12, and accepted in 2016",
-        "every boat as in 2016")),
+        "a boat accepted, and refused under 12 in 2016", "every boat as in 2016")),
 ]
 
 EDGE_RULES = [
@@ -112,8 +112,7 @@ class FleetComparison(Tally):
             complaint += "--- refused with 14, which nothing is due for\n"
         given = parted(text, b"boats")[0]
         self.met.update(years.met("fleet", given, answer))
-        if years.THIRD_FIELD.match(given):
-            self.catch_errors(ours, lambda wrong: fleet_printed(loading_by(wrong).run(text)), YEAR_LOADING_ERRORS)
+        self.catch_errors(ours, lambda wrong: fleet_printed(loading_by(wrong).run(text)), year_errors_of(given))
         self.catch_errors(ours, lambda wrong: fleet_printed(wrong(remembered).run(text)), FLEET_ERRORS)
         self.judge(name, text, complaint)
 
@@ -203,6 +202,8 @@ class FleetComparison(Tally):
                 **{f"fleet: 2014, a boat refused under {number}": True for number in refused},
                 "fleet: 2014, a boat refused under 12, and accepted in 2016": any(
                     isinstance(ours, Refusal) and ours.number == 12 and isinstance(theirs, Result) for ours, theirs in zip(ratings, present)),
+                "fleet: 2014, a boat accepted, and refused under 12 in 2016": any(
+                    isinstance(ours, Result) and isinstance(theirs, Refusal) for ours, theirs in zip(ratings, present)),
                 "fleet: 2014, every boat as in 2016": boats and RIGHT.figures(present) == report,
             }
             self.met.update(rule for rule, holds in conditions.items() if holds)

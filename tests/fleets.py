@@ -304,16 +304,21 @@ def refused_cases(rng):
 
 
 def dated_cases(rng):
-    """A page for each field that can stand behind the number of factors, and boats that only 2014 refuses: the bends of two sums of squares are added."""
+    """A page for each field that can stand behind the number of factors; boats that only 2014 refuses, since bends are added up; and boats that only
+    2016 refuses, since a product is a special case."""
     for name, text in year_cases(rng, tied(rng)):
         yield f"fleet, {name}", text
     factors = rng.randint(2, 4)
     growing = Growing([Range(0, 0)] * factors)
     bend = rng.randint(LIMIT // 4 + 1, LIMIT // 2)
     growing.add_up([growing.appended("mulc", growing.appended("pow", a, 2), bend) for a in range(1, factors + 1)])
-    for year in (EARLIER, PRESENT):
+    for year in (EARLIER, PRESENT) * 2:
         boats = [boat(rng, [rng.randint(-9, 9) for _ in range(factors)]) for _ in range(rng.randint(1, 4))]
         yield f"fleet, bends added up in {year}", page_text(growing.sheet()._replace(year=year), boats)
+    product = Sheet(2, (Operation("pow", (1, 2)), Operation("mul", rng.choice(((2, 3), (3, 2))))))
+    for year in (EARLIER, PRESENT) * 2:
+        boats = [boat(rng, [0, rng.choice((-1, 1)) * rng.randint(LIMIT // 4 - 1, LIMIT // 4 + 2)]) for _ in range(rng.randint(3, 6))]
+        yield f"fleet, A or B past 10^9 in {year}", page_text(product._replace(year=year), boats + [boat(rng, [0, LIMIT // 4 + 1])])
 
 
 def cases(rng):

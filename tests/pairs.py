@@ -12,7 +12,7 @@ from generate import Growing, box_text, input_text, magnitude, scratched
 from orders import BOX_COUNT, BOX_FORM, DIVISOR, END, INPUT, NONE, PAST, TOO_FAR, TURNED, broken, loosely
 from orders import cases as order_cases
 from reference.ranges import LIMIT, UNIT, Range
-from reference.sheet import EARLIER, MOST_BYTES, MOST_FACTORS, MOST_LINES, PRESENT, sheet_text, text_lines
+from reference.sheet import EARLIER, MOST_BYTES, MOST_FACTORS, MOST_LINES, PRESENT, Operation, Sheet, sheet_text, text_lines
 from reference.text import BOX_LINE, MOST_INPUT, parted
 from years import cases as year_cases
 from years import dated
@@ -523,16 +523,21 @@ def largest_cases(rng):
 
 
 def dated_cases(rng):
-    """A class for each field that can stand behind the number of factors, and one that only 2014 refuses: the bends of two squares are added."""
+    """A class for each field that can stand behind the number of factors; one that only 2014 refuses, since bends are added up; and one that only 2016
+    refuses, since a product is a special case."""
     for name, text in year_cases(rng, linear(rng)):
         yield f"sisters, {name}", text
     factors = rng.randint(2, 4)
     growing = Growing([Range(-rng.randint(0, 9), rng.randint(0, 9)) for _ in range(factors)])
     bend = rng.randint(LIMIT // 4 + 1, LIMIT // 2)
     growing.add_up([growing.appended("mulc", growing.appended("pow", a, 2), bend) for a in range(1, factors + 1)])
-    for year in (EARLIER, PRESENT):
+    for year in (EARLIER, PRESENT) * 3:
         boats = some_boats(rng, growing.ranges)
         yield f"sisters, bends added up in {year}", sisters_text(growing.sheet()._replace(year=year), growing.ranges, boats)
+    product = Sheet(2, (Operation("pow", (1, 2)), Operation("mul", rng.choice(((2, 3), (3, 2))))))
+    ranges = [Range(0, 0), Range(LIMIT // 4 - rng.randint(0, 9), LIMIT // 4 + rng.randint(1, 9))]
+    for year in (EARLIER, PRESENT) * 3:
+        yield f"sisters, A or B past 10^9 in {year}", sisters_text(product._replace(year=year), ranges, some_boats(rng, ranges))
 
 
 def cases(rng):

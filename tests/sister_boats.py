@@ -11,7 +11,7 @@ from fractions import Fraction
 from functools import lru_cache
 
 import years
-from errors import SISTER_BOAT_ERRORS, SISTER_LIMIT_ERRORS, SISTER_LINE_ERRORS, YEAR_LOADING_ERRORS, in_32_bits
+from errors import SISTER_BOAT_ERRORS, SISTER_LIMIT_ERRORS, SISTER_LINE_ERRORS, YEAR_LOADING_ERRORS, in_32_bits, year_errors_of
 from orders import BOX_COUNT, BOX_FORM, DIVISOR, INPUT, PAST, TOO_FAR, TURNED, held, loosely, number_of
 from pairs import FAR, MISSPELT, NEXT
 from reference.exact import TooLarge, exact_difference, some_point
@@ -176,8 +176,7 @@ class SistersComparison(Tally):
             complaint += self.order_complaint(text, answer)
         self.note_edges(text, answer)
         self.note_year(text, answer)
-        if years.THIRD_FIELD.match(text):
-            self.catch_errors(ours, lambda wrong: difference_printed(loading_by(wrong).run(text)), YEAR_LOADING_ERRORS)
+        self.catch_errors(ours, lambda wrong: difference_printed(loading_by(wrong).run(text)), year_errors_of(text))
         if isinstance(answer, Difference):
             complaint += self.limits_complaint(rng, text, read(got))
             self.catch(text, ours, SISTER_LIMIT_ERRORS)

@@ -5,7 +5,7 @@ byte of which is compared.
 import random
 
 import years
-from errors import LOADING_ERRORS, TIDY_ERRORS, YEAR_LOADING_ERRORS, YEAR_TIDY_ERRORS, ZERO_FIELD
+from errors import LOADING_ERRORS, TIDY_ERRORS, YEAR_LOADING_ERRORS, YEAR_TIDY_ERRORS, ZERO_FIELD, year_errors_of
 from reference.outcome import Refusal, Refused
 from reference.rating import Result
 from reference.sheet import EARLIER, REFERENCES, load, sheet_text, sheet_text_with
@@ -77,7 +77,7 @@ class TidyComparison(Tally):
             if ours != given:  # where the two sheets are one, nothing is left to compare
                 complaint += difference(self.tidy, ours, ours)
                 complaint += self.rating_complaint(sheet, outcome, ours if box is None else ours + b"box\n" + box)
-        loading = (LOADING_ERRORS if ZERO_FIELD.search(given) else []) + (YEAR_LOADING_ERRORS if years.THIRD_FIELD.match(given) else [])
+        loading = (LOADING_ERRORS if ZERO_FIELD.search(given) else []) + year_errors_of(given)
         self.catch_errors(ours, lambda wrong: tidy_printed(given, loading=wrong), loading)
         if self.into and (rng is None or rng.random() < BUFFER_SHARE):
             complaint += self.buffer_complaint(given, ours)

@@ -81,11 +81,13 @@ def dated(rng, text):
 
 
 def cases(rng, text):
-    """An input with each sort of numeral that is no year, and with each way in which a third field is of another form; and with both years."""
+    """An input with each sort of numeral that is no year, and with each way in which a third field is of another form; one that ends with such a
+    numeral; and with both years. It has no third field of its own."""
     for sort, numerals in OTHERS.items():
         yield f"a year: {sort}", with_field(text, b"%d" % rng.choice(numerals))
     for way, fields in MISSPELT.items():
         yield f"a third field with {way}", with_field(text, rng.choice(fields))
+    yield "a year, and nothing behind it", text[:COUNTED.search(text).end()] + b"\t%d" % other_year(rng)
     for year in (EARLIER, PRESENT):
         yield f"{year} named", with_field(text, b"%d" % year)
 
@@ -93,13 +95,15 @@ def cases(rng, text):
 # ---- what is counted
 
 NOT_NAMED, PRESENT_NAMED, EARLIER_NAMED = "no year named, and not refused", "2016 named, and not refused", "2014 named, and not refused"
+UNENDED = "2 for the byte 10 behind a year that is none"
 
 
 def rules_of(program):
     """What the comparison of a program has to meet."""
     return [
         f"{program}: {rule}" for rule in (
-            NOT_NAMED, PRESENT_NAMED, EARLIER_NAMED, *(f"17 for {sort}" for sort in OTHERS), *(f"2 for a third field with {way}" for way in MISSPELT))]
+            NOT_NAMED, PRESENT_NAMED, EARLIER_NAMED, *(f"17 for {sort}" for sort in OTHERS), *(f"2 for a third field with {way}" for way in MISSPELT),
+            UNENDED)]
 
 
 def met(program, sheet, answer):
@@ -112,6 +116,7 @@ def met(program, sheet, answer):
         found = [f"17 for {sort}" for sort, numerals in OTHERS.items() if int(field) in numerals]
     elif answer == Refusal(2, 1):
         found = [f"2 for a third field with {way}" for way, fields in MISSPELT.items() if field in fields]
+        found += [UNENDED] if field and b"\n" not in sheet and re.fullmatch(NUMERAL, field) and int(field) not in (EARLIER, PRESENT) else []
     else:
         found = []
     return {f"{program}: {rule}" for rule in found}
