@@ -120,6 +120,12 @@ READINGS = [
      "value -20000 40000;slope 1 -20000 40000;depends 1;bent 1;bend 20000 20000;full 20000 20000;"),
     ("Sq over one factor is a second power", "factors 1;pow 1 2;pow 2 2;box;-10000 20000;",
      "value 0 160000;slope 1 -160000 320000;depends 1;bent 1;bend 0 480000;full 0 480000;"),
+    ("a power bends all that its line depends on", "factors 2;pow 1 2;add 3 2;pow 4 2;box;10000 10000;10000 10000;",
+     "value 40000 40000;slope 1 80000 80000;slope 2 40000 40000;depends 1 2;bent 1 2;bend 0 180000;full 0 180000;"),
+    ("a power bends all that its line depends on, and no more", "factors 3;pow 3 2;add 4 1;pow 5 2;box;10000 10000;0 0;10000 10000;",
+     "value 40000 40000;slope 1 40000 40000;slope 2 0 0;slope 3 80000 80000;depends 1 3;bent 1 3;bend 0 180000;full 0 180000;"),
+    ("a power bends the second factor, too", "factors 2;pow 2 2;add 1 3;pow 4 2;box;10000 10000;10000 10000;",
+     "value 40000 40000;slope 1 40000 40000;slope 2 80000 80000;depends 1 2;bent 1 2;bend 0 180000;full 0 180000;"),
     ("the whole sheet counts, used or not", "factors 1;inv 1;addc 1 0;box;0 10000;", "refused 11 2;"),
 ]
 
@@ -415,12 +421,24 @@ OF_2014 = {
 }
 ALONE_IN_2014 = [(f"2014.{OF_2014[name]}", in_year(2014, given), expected) for name, given, expected in ALONE if name in OF_2014]
 
+# V_j·E_i and V_i·E_j are added first, and Λt then: the sum of the former alone passes the limit, or Λt and V_j·E_i would.
+ADDED_FIRST = [
+    ("V_j·E_i + V_i·E_j, below", in_year(2014, two("mul 6 10", (1, -0.9, -1), (200000, -12, -20))[0]), "refused 12 11;"),
+    ("V_j·E_i + V_i·E_j, exchanged", in_year(2014, two("mul 6 10", (200000, 10, 20), (1, -1, 1))[0]), "refused 12 11;"),
+    ("V_j·E_i + V_i·E_j, below, exchanged", in_year(2014, two("mul 6 10", (200000, -12, -20), (1, -0.9, -1))[0]), "refused 12 11;"),
+    ("Λt + V_j·E_i is no step", in_year(2014, two("mul 6 10", (1, 0.9, 1), (200000, 10, -20))[0]),
+     "value 2000000000 2000000000;slope 1 1800100000 1800100000;depends 1;bent 1;bend 1999980000 1999980000;full 1999980000 1999980000;"),
+    ("Λt + V_j·E_i is no step, below", in_year(2014, two("mul 6 10", (-1, -0.9, -1), (200000, 10, -20))[0]),
+     "value -2000000000 -2000000000;slope 1 -1800100000 -1800100000;depends 1;bent 1;bend -1999980000 -1999980000;full -1999980000 -1999980000;"),
+]
+
 YEARS = [
     *((f"{name}, {year}", in_year(year, given), expected)
       for name, given, earlier, present in BOTH_YEARS for year, expected in ((2014, earlier), (2016, present))),
     *((f"{name}, no year", given, present) for name, given, _, present in BOTH_YEARS),
     *FIRST_LINES,
     *ALONE_IN_2014,
+    *ADDED_FIRST,
 ]
 
 FIGURES = [
