@@ -2,6 +2,7 @@
 """Times ratings of the proved engine beside plain C, and pages of boats and classes cut finer beside ratings, on the sheets of bench/sheets.
 
 bench/bench.py PATH_TO_RATE_MANY [PATH_TO_AN_EARLIER_ONE]
+bench/bench.py --in-2014 PATH_TO_RATE_MANY
 bench/bench.py --pages PATH_TO_RATE_MANY
 bench/bench.py --cuts PATH_TO_CUT_MANY
 
@@ -9,6 +10,9 @@ PATH N < SHEET loads the sheet once and rates it N times; bench/reference.c, bui
 Nanoseconds are the least processor time of all rounds, and the ratio is that of the two; the median is that of the rounds' own ratios, which a busy
 machine moves. Both are printed, since they differ. A run of one rating is taken off, so that starting and loading do not count. An earlier build is
 timed beside the engine in the same way, sheet by sheet; what it prints is not compared, since its rules may be those of earlier requests.
+
+The same sheets are timed with the year 2014 put in (02, request 9), beside the C as before and not beside an earlier build: first both have to accept each
+of them and to print the same. --in-2014 times these alone.
 
 PATH N numbers < FLEET and PATH N boats < FLEET read a sheet and its boats once and make the fleet page N times (02, request 3), from a flat slice of
 numbers and from a slice of structs. A page of 1,000 boats is timed in the same way, beside ratings of the middle of the class, a class of one point.
@@ -36,6 +40,7 @@ LONG_RUN = 0.04  # seconds a long run should take
 FORMS = {"numbers": "numbers", "structs": "boats"}  # the forms of a list of boats, and the job of each
 RECORD = 8  # numbers of a boat
 BOATS = 1000  # of a page
+MOST_IN_2014 = 2  # the bar: the time of a rating in 2014, in ratings of the C, by the geometric mean; the mean has to be below it
 MOST_PER_BOAT = 1.1  # the bar: the time of a boat on a page, in plain ratings of the same point
 DEPTHS = range(7)  # to which a class can be cut
 MOST_PER_PART = 1.25  # the bar: the time of a part, in plain ratings of the uncut class, by the geometric mean
@@ -165,6 +170,39 @@ def fits(rows, size, other="C"):
         print(f"  {name}: {start:.0f} ns + {slope:.1f} ns for each of the {size}, R² {nearness:.4f}")
 
 
+def in_2014(sheet, folder):
+    """A sheet with the year put into its first line, in a file of the same name."""
+    path = Path(folder) / "2014" / sheet.name
+    path.parent.mkdir(exist_ok=True)
+    first, rest = sheet.read_text().split("\n", 1)
+    path.write_text(f"{first}\t2014\n{rest}")
+    return path
+
+
+def compare(engine, plain, sheets):
+    """Both programs accept each sheet and print the same."""
+    for sheet in sheets:
+        printed = [run(program, 1, sheet)[1] for program in (engine, plain)]
+        if printed[0] != printed[1]:
+            sys.exit(f"{sheet.name} in {sheet.parent.name}: the two programs print different results")
+        if printed[0].startswith(b"refused"):
+            sys.exit(f"{sheet.name} in {sheet.parent.name} is refused")
+
+
+def tables_in_2014(all_sheets, classes, engine, plain, folder):
+    classes = [in_2014(sheet, folder) for sheet in classes]
+    by_factors = [in_2014(sheet, folder) for sheet in all_sheets if sheet.stem.startswith("growth-factors-")]
+    by_signs = [in_2014(sheet, folder) for sheet in all_sheets if sheet.stem == SIGNS]
+    compare(engine, plain, classes + by_factors + by_signs)
+    rows = table("Classes in 2014, nanoseconds per rating", classes, engine, plain)
+    means(rows)
+    mean = geometric_mean(row.ratio for row in rows)
+    print(f"  by the mean {'below' if mean < MOST_IN_2014 else 'NOT BELOW'} {MOST_IN_2014} ratings of the C: {mean:.3f}")
+    fits(table("Growth with the factors in 2014, 32 lines", by_factors, engine, plain), "factors")
+    table("Ranges that change sign from line to line, in 2014", by_signs, engine, plain)
+    return rows
+
+
 def rating_tables(all_sheets, classes, engine, earlier, folder):
     plain = build(folder)
     by_lines = [sheet for sheet in all_sheets if sheet.stem.startswith("growth-lines-")]
@@ -176,10 +214,16 @@ def rating_tables(all_sheets, classes, engine, earlier, folder):
         means(table("Beside the earlier build, nanoseconds per rating", classes, engine, before, "earlier"))
         fits(table("Beside the earlier build, growth with the factors", by_factors, engine, before, "earlier"), "factors", "earlier")
         table("Beside the earlier build, ranges that change sign from line to line", by_signs, engine, before, "earlier")
-    means(table("Classes, nanoseconds per rating", classes, engine, plain))
+    rows = table("Classes, nanoseconds per rating", classes, engine, plain)
+    means(rows)
     fits(table("Growth with the lines, 4 factors", by_lines, engine, plain), "lines")
     fits(table("Growth with the factors, 32 lines", by_factors, engine, plain), "factors")
     table("Ranges that change sign from line to line", by_signs, engine, plain)
+
+    rows_in_2014 = tables_in_2014(all_sheets, classes, engine, plain, folder)
+    for name, times in (("engine", "engine"), ("C", "plain")):
+        mean = geometric_mean(getattr(old, times) / getattr(new, times) for old, new in zip(rows_in_2014, rows))
+        print(f"  {name}: a rating in 2014 takes {mean:.3f} times one in 2016, by the geometric mean over the classes")
 
     largest = max(classes, key=lambda sheet: shape(sheet)[::-1])
     print(f"\nPeak memory on {largest.stem}")
@@ -327,17 +371,21 @@ def main():
     parser = argparse.ArgumentParser(description=__doc__, formatter_class=argparse.RawDescriptionHelpFormatter)
     parser.add_argument("engine", metavar="PATH", type=Path, help="the program `rate_many`, or with --cuts `cut_many`")
     parser.add_argument("earlier", metavar="PATH_TO_AN_EARLIER_ONE", type=Path, nargs="?")
+    parser.add_argument("--in-2014", action="store_true", help="ratings in 2014 alone")
     parser.add_argument("--pages", action="store_true", help="pages of boats alone")
     parser.add_argument("--cuts", action="store_true", help="classes cut finer, by `cut_many`")
     arguments = parser.parse_args()
-    if (arguments.pages or arguments.cuts) and arguments.earlier:
-        parser.error("--pages and --cuts take no earlier build: it would have to know the fleet page, and the cut")
+    if (arguments.in_2014 or arguments.pages or arguments.cuts) and arguments.earlier:
+        parser.error("--in-2014, --pages and --cuts take no earlier build: it would have to know the year, the fleet page, and the cut")
     engine = arguments.engine.resolve()
     all_sheets = sorted(SHEETS.glob("*.txt"), key=lambda sheet: (shape(sheet), sheet.stem))
     classes = [sheet for sheet in all_sheets if not sheet.stem.startswith("growth-") and sheet.stem != SIGNS]
     with tempfile.TemporaryDirectory() as folder:
         if arguments.cuts:
             cut_table(classes, engine, folder)
+            return
+        if arguments.in_2014:
+            tables_in_2014(all_sheets, classes, engine, build(folder), folder)
             return
         if not arguments.pages:
             rating_tables(all_sheets, classes, engine, arguments.earlier, folder)

@@ -1,10 +1,11 @@
-/* The rules of paper 01, with requests 2, 4 and 5 of 02, in plain C, unverified and written for speed: what the proved engine is timed against.
+/* The rules of paper 01, with requests 2, 4, 5 and 9 of 02, in plain C, unverified and written for speed: what the proved engine is timed against.
    reference < INPUT prints what `rate` prints; reference N < INPUT loads once, rates N times and prints the last result.
 
    Ends of ranges are within 2,000,000,000 units, so a product of two fits 64 bits; only a sum of squares and the product under Cross's root may
    need more.
    The two sets of a line do not depend on the ranges: loading works them out, and so which `mul` is one of request 4; slopes outside
-   depends-on sets stay 0. */
+   depends-on sets stay 0. A sheet of 2014 has functions of its own: its slopes are those of 2016, and its bends the plain formulas over all n factors,
+   for which no set is looked at. */
 #include <math.h>
 #include <stdint.h>
 #include <stdio.h>
@@ -24,7 +25,7 @@ typedef struct { Range value, bend, slopes[MOST_FACTORS]; } Line;
 typedef enum { ADD, MUL, ADDC, MULC, POW, INV, PAIR } Name; /* PAIR: a `mul` of two single-factor lines, at least one bent */
 typedef struct { Name name; int i, j; int64_t number; } Operation; /* number: constant or exponent; lines counted from 0 */
 typedef struct {
-    int factors, lines;
+    int factors, lines, earlier; /* earlier: of 2014 */
     Operation operations[MOST_LINES]; /* by line; those of the factors are not used */
     uint8_t depends[MOST_LINES], bent[MOST_LINES];
 } Sheet;
@@ -282,6 +283,117 @@ static inline int inv_line(Line *z, const Line *x, unsigned px, unsigned bx) {
     return 0;
 }
 
+/* ---- the lines of 2014: source document 001, Table 2, with (23) and (24); `addc` and `mulc` have no rule of their own */
+
+#define EVERY(a, n) for (int a = 0; a < (n); a++)
+
+static inline int64_t squares_2014(const Range *slopes, int n) {
+    unsigned __int128 total = UNIT - 1;
+    EVERY(a, n) {
+        int64_t most = magnitude(slopes[a]);
+        total += (unsigned __int128)(most * most);
+    }
+    return total >> 64 ? (int64_t)(total / UNIT) : (int64_t)((uint64_t)total / UNIT);
+}
+
+static inline Range lambda_s(const Range *slopes, int n) {
+    return n == 1 ? power(slopes[0], 2) : (Range){0, squares_2014(slopes, n)};
+}
+
+static inline int lambda_t(Range *out, const Range *g, const Range *h, int n) {
+    if (n == 1) {
+        STEP(once, product(g[0], h[0]));
+        *out = multiple(2, once);
+        return passes(*out) ? 12 : 0;
+    }
+    unsigned __int128 both = (unsigned __int128)squares_2014(g, n) * (unsigned __int128)squares_2014(h, n);
+    if (both > (unsigned __int128)LIMIT * LIMIT) return 12;
+    int64_t beta = root_up((uint64_t)both);
+    Range total = {-beta, beta};
+    EVERY(a, n) total = sum(total, product(g[a], h[a]));
+    *out = total;
+    return passes(total) ? 12 : 0;
+}
+
+static inline int add_2014(Line *z, const Line *x, unsigned px, const Line *y, unsigned py) {
+    STEP(value, sum(x->value, y->value));
+    z->value = value;
+    EACH(a, px | py) {
+        STEP(slope, sum(x->slopes[a], y->slopes[a]));
+        z->slopes[a] = slope;
+    }
+    STEP(bend, sum(x->bend, y->bend));
+    z->bend = bend;
+    return 0;
+}
+
+static inline int mul_2014(Line *z, const Line *x, unsigned px, const Line *y, unsigned py, int n) {
+    STEP(value, product(x->value, y->value));
+    z->value = value;
+    EACH(a, px & ~py) {
+        STEP(slope, product(y->value, x->slopes[a]));
+        z->slopes[a] = slope;
+    }
+    EACH(a, py & ~px) {
+        STEP(slope, product(x->value, y->slopes[a]));
+        z->slopes[a] = slope;
+    }
+    EACH(a, px & py) {
+        STEP(left, product(x->value, y->slopes[a]));
+        STEP(right, product(y->value, x->slopes[a]));
+        STEP(slope, sum(left, right));
+        z->slopes[a] = slope;
+    }
+    Range crossed;
+    if (lambda_t(&crossed, x->slopes, y->slopes, n)) return 12;
+    STEP(left, product(y->value, x->bend));
+    STEP(right, product(x->value, y->bend));
+    STEP(scaled, sum(left, right));
+    STEP(bend, sum(crossed, scaled));
+    z->bend = bend;
+    return 0;
+}
+
+static inline int pow_2014(Line *z, const Line *x, unsigned px, int m, int n) {
+    STEP(value, power(x->value, m));
+    STEP(outer, power(x->value, m - 1));
+    STEP(second, power(x->value, m - 2));
+    z->value = value;
+    EACH(a, px) {
+        STEP(once, product(outer, x->slopes[a]));
+        STEP(slope, multiple(m, once));
+        z->slopes[a] = slope;
+    }
+    STEP(square, lambda_s(x->slopes, n));
+    STEP(squared, multiple(m - 1, square));
+    STEP(curved, product(x->value, x->bend));
+    STEP(inner, sum(squared, curved));
+    STEP(once, product(second, inner));
+    STEP(bend, multiple(m, once));
+    z->bend = bend;
+    return 0;
+}
+
+static inline int inv_2014(Line *z, const Line *x, unsigned px, int n) {
+    if (x->value.low <= 0 && 0 <= x->value.high) return 11;
+    Range value = inverse(x->value);
+    STEP(square, power(value, 2));
+    z->value = value;
+    EACH(a, px) {
+        STEP(slope, negation(product(square, x->slopes[a])));
+        z->slopes[a] = slope;
+    }
+    STEP(squared, lambda_s(x->slopes, n));
+    STEP(once, product(value, squared));
+    STEP(twice, multiple(2, once));
+    STEP(inner, sum(twice, negation(x->bend)));
+    STEP(bend, product(square, inner));
+    z->bend = bend;
+    return 0;
+}
+
+/* ---- ratings */
+
 typedef struct { Range value, slopes[MOST_FACTORS], bend, full; uint8_t depends, bent; } Result;
 
 /* What is timed: a whole rating, from two numbers per factor to the result. Slopes outside a depends-on set are not written: the caller has
@@ -322,6 +434,41 @@ static __attribute__((noinline)) Refusal rate(const Sheet *s, const int64_t *num
     return (Refusal){0, 0};
 }
 
+/* the same of a sheet of 2014 */
+static __attribute__((noinline)) Refusal rate_2014(const Sheet *s, const int64_t *numbers, size_t count, Line *lines, Result *result) {
+    const uint8_t *p = s->depends;
+    int n = s->factors;
+    memset(result, 0, sizeof *result);
+    if (count != 2 * (size_t)n) return (Refusal){8, 0};
+    for (int a = 0; a < n; a++) {
+        Range r = {numbers[2 * a], numbers[2 * a + 1]};
+        if (r.low > r.high || passes(r)) return (Refusal){9, a + 1};
+        lines[a].value = r;
+        lines[a].slopes[a] = (Range){UNIT, UNIT};
+    }
+    for (int k = n; k < s->lines; k++) {
+        const Operation *o = &s->operations[k];
+        int i = o->i, j = o->j, refused = 0;
+        Line *z = &lines[k];
+        switch (o->name) {
+        case ADD: refused = add_2014(z, &lines[i], p[i], &lines[j], p[j]); break;
+        case MUL: case PAIR: /* in 2014 a product as any other */ refused = mul_2014(z, &lines[i], p[i], &lines[j], p[j], n); break;
+        case ADDC: refused = addc_line(z, &lines[i], o->number); break;
+        case MULC: refused = mulc_line(z, &lines[i], p[i], o->number); break;
+        case POW: refused = pow_2014(z, &lines[i], p[i], (int)o->number, n); break;
+        case INV: refused = inv_2014(z, &lines[i], p[i], n); break;
+        }
+        if (refused) return (Refusal){refused, k + 1};
+    }
+    const Line *last = &lines[s->lines - 1];
+    result->value = last->value;
+    memcpy(result->slopes, last->slopes, sizeof result->slopes);
+    result->depends = s->depends[s->lines - 1];
+    result->bent = (uint8_t)((1u << n) - 1);
+    result->bend = result->full = last->bend;
+    return (Refusal){0, 0};
+}
+
 /* ---- reading: each reader moves the text on and says whether it found its form */
 
 typedef struct { const char *at, *end; } Text;
@@ -355,10 +502,13 @@ static int pair(const Sheet *s, int i, int j) {
 static Refusal load(Sheet *s, Text t) {
     static const char *const names[] = {"add\t", "mul\t", "addc\t", "mulc\t", "pow\t", "inv\t"};
     if (t.end - t.at > MOST_SHEET) return (Refusal){1, 0};
-    int64_t n;
-    if (!word(&t, "factors") || !field(&t, &n) || !word(&t, "\n")) return (Refusal){2, 1};
+    int64_t n, year = 2016;
+    if (!word(&t, "factors") || !field(&t, &n)) return (Refusal){2, 1};
+    if (!word(&t, "\n") && (!field(&t, &year) || !word(&t, "\n"))) return (Refusal){2, 1};
     if (n < 1 || n > MOST_FACTORS) return (Refusal){3, 1};
+    if (year != 2016 && year != 2014) return (Refusal){17, 1};
     s->factors = (int)n;
+    s->earlier = year == 2014;
     memset(s->depends, 0, sizeof s->depends);
     memset(s->bent, 0, sizeof s->bent);
     for (int a = 0; a < s->factors; a++) s->depends[a] = (uint8_t)(1u << a);
@@ -437,7 +587,7 @@ static Refusal run(Text input, long times, Sheet *s, Line *lines, Result *result
     int64_t numbers[2 * MOST_FACTORS];
     refusal = box(s, ranges, numbers);
     while (!refusal.number && times-- > 0) {
-        refusal = rate(s, numbers, 2 * (size_t)s->factors, lines, result);
+        refusal = (s->earlier ? rate_2014 : rate)(s, numbers, 2 * (size_t)s->factors, lines, result);
         __asm__ volatile("" : : "r"(result) : "memory"); /* each rating is done */
     }
     return refusal;
