@@ -225,40 +225,35 @@ line-complete (Inv i) t f =
 abbrev counted : Numeral → YearField → Numeral × YearField
 counted n f = (n, f)
 
--- n alone
-alone-sound : (s : List ℕ) (p : Numeral × YearField) (t : List ℕ) → next (field 10 s) (λ n u. good (counted n absent) u) ≡ good p t
-    → FirstAt (factors→ ++ s) (p .0) (p .1) t
-alone-sound s p t e = go (next-inv (field 10 s) (λ n u. good (counted n absent) u) p t e)
-  where
-    go : (n : Numeral) × (u : List ℕ) × (field 10 s ≡ good n u) × (good (counted n absent) u ≡ good p t) → FirstAt (factors→ ++ s) (p .0) (p .1) t
-    go (n, u, a, b) =
-        let m = field-sound 10 s n u (lit< tt) a in
-        let q : counted n absent ≡ p = cc b in
-        let r : u ≡ t = cc b in
-        subst (λ (z : Numeral × YearField). FirstAt (factors→ ++ s) (z .0) (z .1) t) q
-        (record {
-          fine = m .fine;
-          year = tt;
-          text = ap (λ (l : List ℕ). factors→ ++ l) (m .text) ∙ rw r (simp append-assoc);
-        })
+-- what a reader's find makes of them
+made : {A : Type 0} (r : Read A) (f : A → Numeral × YearField) (s : List ℕ)
+    → ((a : A) (u : List ℕ) → r ≡ good a u → FirstAt (factors→ ++ s) (f a .0) (f a .1) u) → (p : Numeral × YearField) (t : List ℕ)
+    → next r (λ a u. good (f a) u) ≡ good p t → FirstAt (factors→ ++ s) (p .0) (p .1) t
+made (good a u) f s h p t e =
+    let q : f a ≡ p = cc e in
+    let v : u ≡ t = cc e in
+    subst (λ (z : Numeral × YearField). FirstAt (factors→ ++ s) (z .0) (z .1) t) q
+    (subst (λ (l : List ℕ). FirstAt (factors→ ++ s) (f a .0) (f a .1) l) v (h a u refl))
+made bad f s h p t e = never p t e
 
--- n and a year
-dated-sound : (s : List ℕ) (p : Numeral × YearField) (t : List ℕ) → next (pair s) (λ q u. good (counted (q .0) (written (q .1))) u) ≡ good p t
-    → FirstAt (factors→ ++ s) (p .0) (p .1) t
-dated-sound s p t e = go (next-inv (pair s) (λ q u. good (counted (q .0) (written (q .1))) u) p t e)
-  where
-    go : (q : Numeral × Numeral) × (u : List ℕ) × (pair s ≡ good q u) × (good (counted (q .0) (written (q .1))) u ≡ good p t)
-        → FirstAt (factors→ ++ s) (p .0) (p .1) t
-    go (q, u, a, b) =
-        let m = pair-sound s q u a in
-        let k : counted (q .0) (written (q .1)) ≡ p = cc b in
-        let r : u ≡ t = cc b in
-        subst (λ (z : Numeral × YearField). FirstAt (factors→ ++ s) (z .0) (z .1) t) k
-        (record {
-          fine = m .left;
-          year = m .right;
-          text = m .text factors→ ∙ ap (λ (l : List ℕ). two factors→ (q .0) (q .1) ++ l) r;
-        })
+-- n alone, or n and a year
+alone-sound : (s : List ℕ) (n : Numeral) (t : List ℕ) → field 10 s ≡ good n t → FirstAt (factors→ ++ s) n absent t
+alone-sound s n t e =
+    let m = field-sound 10 s n t (lit< tt) e in
+    record {
+      fine = m .fine;
+      year = tt;
+      text = ap (λ (l : List ℕ). factors→ ++ l) (m .text) ∙ simp append-assoc;
+    }
+
+dated-sound : (s : List ℕ) (p : Numeral × Numeral) (t : List ℕ) → pair s ≡ good p t → FirstAt (factors→ ++ s) (p .0) (written (p .1)) t
+dated-sound s p t e =
+    let m = pair-sound s p t e in
+    record {
+      fine = m .left;
+      year = m .right;
+      text = m .text factors→;
+    }
 
 pub first-sound : (s : List ℕ) (p : Numeral × YearField) (t : List ℕ) → firstLine s ≡ good p t → FirstAt s (p .0) (p .1) t
 unfolding firstLine firstFields
@@ -267,7 +262,10 @@ first-sound s p t e = go (next-inv (literal factors→ s) (λ _ u. firstFields u
     go : (x : Unit) × (u : List ℕ) × (literal factors→ s ≡ good x u) × (firstFields u ≡ good p t) → FirstAt s (p .0) (p .1) t
     go (x, u, a, b) =
         subst (λ (l : List ℕ). FirstAt l (p .0) (p .1) t) (sym (literal-sound factors→ s x u refl a))
-        (⊎-elim (alone-sound u p t) (dated-sound u p t) (or-inv _ _ p t b))
+        (⊎-elim
+        (made (field 10 u) (λ n. counted n absent) u (alone-sound u) p t)
+        (made (pair u) (λ q. counted (q .0) (written (q .1))) u (dated-sound u) p t)
+        (or-inv _ _ p t b))
 
 pub first-complete : (w : Numeral) (f : YearField) (t : List ℕ) → IsNumeral w → HasYear f → firstLine (firstText w f ++ t) ≡ good (counted w f) t
 unfolding firstLine firstFields literal peek rest digit
