@@ -165,7 +165,7 @@ class Comparison(Tally):
                 complaint += self.exact_complaint(outcome, rng)
         else:
             complaint += self.note_orders(text, outcome.answer)
-        self.met.update(years.met("rate", text, outcome.answer))
+        self.met.update(years.met("rate", parted(text)[0], outcome.answer))
         if comes_to_lines(outcome):
             self.try_errors(text, ours, outcome.sheet.year)
             complaint += self.rounding_complaint(text, outcome) + self.special_complaint(text, outcome)
@@ -263,8 +263,8 @@ class Comparison(Tally):
         self.met.update(rule for rule, holds in conditions.items() if holds)
 
     def other_year_complaint(self, text, outcome):
-        """The same sheet in the other year: what the program prints of it, and that it is the same but for bends and bent sets where both are accepted. A
-        sheet of 2016 that names no year is printed the same with it named."""
+        """The same sheet in the other year: what the program prints of it, and that it is the same but for bends and bent sets where both are accepted.
+        Of a sheet of 2016 that names no year the same is printed with it named."""
         sheet, _, answer = outcome
         other = EARLIER if sheet.year == PRESENT else PRESENT
         behind = b"box\n" + parted(text)[1]

@@ -2,13 +2,13 @@
 
 Of rating, the first five are the errors that 01 names at its end, then come the results "From the buyer" wants turned down, then other
 readings of sentences that decide a result, near misses of 02's request 2, the sum of squares, of its request 4: of which products are
-special cases, of their bends, and of what is refused; of its request 8, of a division by a sum and of the limit before it; and of its request 9, of the bends and sets of 2014. Those of loading are near
-misses of request 5: of which lines are refused with 15, of its number and place, and of when it comes; and of request 9: of which years are taken, of
-what else stands in a third field, and of when 17 comes. Those of tidying (request 1) are near misses of what is used, what is kept, how it is renumbered
-and when the year is named; those of the fleet page (request 3), of what a boat is, of what is counted, summed and compared, and of which lists are taken; those of classes cut finer
-(request 6), of which range is cut, where and how often, of what is made of the two halves, of which depths are taken, and of the first line; those of
-sister boats (request 7), of which products are summed and how the sums are rounded, of which boats are taken and when that is asked, and of the boat
-lines.
+special cases, of their bends, and of what is refused; of its request 8, of a division by a sum and of the limit before it; and of its request 9,
+of the bends and sets of 2014. Those of loading are near misses of request 5: of which lines are refused with 15, of its number and place, and of when
+it comes; and of request 9: of which years are taken, of what else stands in a third field, and of when 17 comes. Those of tidying (request 1) are near
+misses of what is used, what is kept, how it is renumbered and when the year is named; those of the fleet page (request 3), of what a boat is, of what
+is counted, summed and compared, and of which lists are taken; those of classes cut finer (request 6), of which range is cut, where and how often, of
+what is made of the two halves, of which depths are taken, and of the first line; those of sister boats (request 7), of which products are summed and
+how the sums are rounded, of which boats are taken and when that is asked, and of the boat lines. Of these three the year can be forgotten, too.
 """
 import re
 from math import isqrt
@@ -744,7 +744,7 @@ STEPS = [
     "inv.V^2", "inv.G", "inv.Sq.one", "inv.Sq.sum", "inv.2VSq", "inv.inner", "inv.E",
 ]
 
-# Those of the bends of 2014. Λt over more factors is not among them: every bend over more factors has 0 in it, so that Λt's sum with others passes, too.
+# Those of the bends of 2014. Λt over more factors is not among them: every bend over more factors has 0 in it, and so Λt's sum with others passes, too.
 YEAR_STEPS = [
     "2014.add", "2014.mulc", "2014.mul.VjEi", "2014.mul.ViEj", "2014.mul.VjEi+ViEj", "2014.mul.Λt.one", "2014.mul",
     "2014.pow.(m-1)Λs", "2014.pow.VE", "2014.pow.inner", "2014.pow",

@@ -1,7 +1,8 @@
 """The figures and edges of the papers as inputs of `rate` with the whole text it must print; inputs whose sheets are tidied, with the tidied sheet;
 inputs of `fleet`, of `cut` and of `sisters`, with their whole print.
 
-In all of them, `;` stands for byte 10, a blank for the tab and byte 11 for a blank. Where 01 gives a part of a result only, the other lines follow from its table.
+In all of them, `;` stands for byte 10, a blank for the tab and byte 11 for a blank. Where 01 gives a part of a result only, the other lines follow
+from its table; those of 2014 follow from Table 2 of source document 001.
 """
 
 
@@ -413,7 +414,7 @@ FIRST_LINES = [
     ("2014 in line 65", lines("factors 1 2014;", 65, "addc 1 0;") + "box;7 9;", "refused 4 65;"),
 ]
 
-# The steps of the bends of 2014, each of which alone passes the limit, by those of 01's table that they are with n = 1, and with n = 2 for one of them.
+# The steps of the bends of 2014, each of which alone passes the limit, by those of 01's table that they are with n = 1, and one of them with n = 2.
 OF_2014 = {
     "add.join": "add", "mulc.E": "mulc", "mul.VjEi": "mul.VjEi", "mul.ViEj": "mul.ViEj", "mul.join": "mul.VjEi+ViEj", "mul.Cross.one": "mul.Λt.one",
     "mul.E": "mul", "pow.(m-1)Sq": "pow.(m-1)Λs", "pow.VE": "pow.VE", "pow.inner": "pow.inner", "pow.E": "pow", "inv.Sq.one": "inv.Λs.one",

@@ -304,10 +304,13 @@ def refused_cases(rng):
 
 
 def dated_cases(rng):
-    """A page for each field that can stand behind the number of factors; boats that only 2014 refuses, since bends are added up; and boats that only
-    2016 refuses, since a product is a special case."""
+    """A page for each field that can stand behind the number of factors; what 17 is behind, and what is behind 17; boats that only 2014 refuses, since
+    bends are added up; and boats that only 2016 refuses, since a product is a special case."""
     for name, text in year_cases(rng, tied(rng)):
         yield f"fleet, {name}", text
+    later = (FORM, BEYOND, REFERENCE, EXPONENT, CONSTANT, MULTIPLIER)
+    for lines, also in [([], [COUNT, YEAR]), ([], [YEAR, NONE]), *(([{kind}], [YEAR]) for kind in later)]:
+        yield "fleet, 3 before 17, or 17 before another refusal of loading", parted(broken(rng, *lines, also=also))[0] + PARTING
     factors = rng.randint(2, 4)
     growing = Growing([Range(0, 0)] * factors)
     bend = rng.randint(LIMIT // 4 + 1, LIMIT // 2)

@@ -368,8 +368,8 @@ def of_one_factor(rng, growing, a):
 
 
 def special(rng):
-    """A product of two lines of one factor each: mostly of two different ones, at times with a third one in it, or with a line behind it. In 2014 these
-    are products as any others; so are those of the next three kinds."""
+    """A product of two lines of one factor each: mostly of two different ones, at times with a third one in it, or with a line behind it. In 2014 it is
+    a product as any other; so are those of the next three kinds."""
     factors = rng.choice((2, 2, 2, 3, 4, 8))
     growing = Growing([some_range(rng) for _ in range(factors)], some_year(rng))
     a, b = rng.sample(range(1, factors + 1), 2)

@@ -6,11 +6,11 @@ is given at "text line 1, after 3", and so before all that the operation lines a
 
 A program that tests two of them the other way round is told from the right one only by an input of which both conditions hold. So every pair
 that can meet is listed here (`ORDERS`), an input of each is made, and the comparison fails where one was never met. Pairs that cannot meet:
-3 or 17 with 4 to 7 or 15 in one line (only the first line has a count and a year, and it has nothing else), 6 with 7 or 15 in one line (an operation has an exponent
-or a constant), and 7 with 15 in one line (0 is within the limit): "right after 7" shows as behind 2, 4 and 5. 11 and 12 can meet in one line: Sq of
-the slopes, and Λs of 2014, need no inverse. 10 comes up in no input of the program `rate`, which loads a sheet before it rates: crates/engine_calls has it. 16, between
-loading and 8, comes up in inputs of the program `cut` only: cutting.py has its pairs. 8 and 9 of two boats, behind all of these, come up in inputs of
-`sisters` only: sister_boats.py has theirs.
+3 or 17 with 4 to 7 or 15 in one line (only the first line has a count and a year, and it has nothing else), 6 with 7 or 15 in one line (an operation
+has an exponent or a constant), and 7 with 15 in one line (0 is within the limit): "right after 7" shows as behind 2, 4 and 5. 11 and 12 can meet in
+one line: Sq of the slopes, and Λs of 2014, need no inverse. 10 comes up in no input of the program `rate`, which loads a sheet before it rates:
+crates/engine_calls has it. 16, between loading and 8, comes up in inputs of the program `cut` only: cutting.py has its pairs. 8 and 9 of two boats,
+behind all of these, come up in inputs of `sisters` only: sister_boats.py has theirs.
 """
 import re
 from typing import NamedTuple

@@ -130,8 +130,8 @@ EDGE_RULES = [
 ]
 
 YEAR_RULES = years.rules_of("sisters") + [
-    "sisters: 2014, limits, and the same in 2016", "sisters: 2014, limits, and 2016 refuses the class", "sisters: 2014, the class refused, and not in 2016",
-    "sisters: 2014, a boat outside", "sisters: 2014, exact",
+    *(f"sisters: 2014, {rule}" for rule in (
+        "limits, and the same in 2016", "limits, and 2016 refuses the class", "the class refused, and not in 2016", "a boat outside", "exact")),
 ]
 
 
@@ -292,14 +292,15 @@ class SistersComparison(Tally):
 
     def note_year(self, text, answer):
         """What 02's request 9 is about: 2014 gives the limits of 2016, where the class is not refused in one of them."""
-        self.met.update(years.met("sisters", text, answer))
+        self.met.update(years.met("sisters", parted(RIGHT.parts(text)[0])[0], answer))
         if isinstance(answer, Refusal) and answer.number not in (9, 12) or RIGHT.sheet(text).year != EARLIER:
             return
         sheet, ends = RIGHT.sheet(text), RIGHT.ends(text)
         own, present = (remembered(of_year, tuple(ends)) for of_year in (sheet, sheet._replace(year=PRESENT)))
+        limits = isinstance(answer, Difference)
         conditions = {
-            "sisters: 2014, limits, and the same in 2016": isinstance(answer, Difference) and isinstance(present, Result) and own.slopes == present.slopes,
-            "sisters: 2014, limits, and 2016 refuses the class": isinstance(answer, Difference) and isinstance(present, Refusal),
+            "sisters: 2014, limits, and the same in 2016": limits and isinstance(present, Result) and own.slopes == present.slopes,
+            "sisters: 2014, limits, and 2016 refuses the class": limits and isinstance(present, Refusal),
             "sisters: 2014, the class refused, and not in 2016": isinstance(own, Refusal) and isinstance(present, Result),
             "sisters: 2014, a boat outside": isinstance(own, Result) and isinstance(answer, Refusal),
         }

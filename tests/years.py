@@ -1,12 +1,12 @@
-"""Years in the first line of a sheet (02, request 9): fields that a first line can have behind its count, an input for each of them, and what all five
-comparisons count of them.
+"""Years in the first line of a sheet (02, request 9): fields that a first line can have behind its count, an input for each of them, and what all
+five comparisons count of them.
 
 A third of the sheets is of 2014, and some name 2016; the others have no third field, but for a few with another numeral, or with one that is none.
 """
 import re
 
-from reference.outcome import Refusal
-from reference.sheet import EARLIER, PRESENT, NUMERAL
+from reference.outcome import Refusal, Refused
+from reference.sheet import EARLIER, NUMERAL, PRESENT, load
 
 EARLIER_SHARE = 1 / 3
 
@@ -81,12 +81,12 @@ def dated(rng, text):
 
 
 def cases(rng, text):
-    """An input with each sort of numeral that is no year, and with each way in which a third field is of another form; one that ends with such a
-    numeral; and with both years. It has no third field of its own."""
-    for sort, numerals in OTHERS.items():
-        yield f"a year: {sort}", with_field(text, b"%d" % rng.choice(numerals))
-    for way, fields in MISSPELT.items():
-        yield f"a third field with {way}", with_field(text, rng.choice(fields))
+    """An input with each numeral of the list that is no year, and with each field that is none; one that ends with such a numeral; and with both years.
+    It has no third field of its own."""
+    for sort, numeral in [(sort, numeral) for sort, numerals in OTHERS.items() for numeral in numerals]:
+        yield f"a year: {sort}", with_field(text, b"%d" % numeral)
+    for way, field in [(way, field) for way, fields in MISSPELT.items() for field in fields]:
+        yield f"a third field with {way}", with_field(text, field)
     yield "a year, and nothing behind it", text[:COUNTED.search(text).end()] + b"\t%d" % other_year(rng)
     for year in (EARLIER, PRESENT):
         yield f"{year} named", with_field(text, b"%d" % year)
@@ -96,6 +96,9 @@ def cases(rng, text):
 
 NOT_NAMED, PRESENT_NAMED, EARLIER_NAMED = "no year named, and not refused", "2016 named, and not refused", "2014 named, and not refused"
 UNENDED = "2 for the byte 10 behind a year that is none"
+THREE_FIRST = "3 over 17"
+LATER = (2, 4, 5, 6, 7, 15)  # what an operation line is refused for, and 4 also for want of one
+NO_OPERATION = "17 over 4 for want of an operation"
 
 
 def rules_of(program):
@@ -103,7 +106,16 @@ def rules_of(program):
     return [
         f"{program}: {rule}" for rule in (
             NOT_NAMED, PRESENT_NAMED, EARLIER_NAMED, *(f"17 for {sort}" for sort in OTHERS), *(f"2 for a third field with {way}" for way in MISSPELT),
-            UNENDED)]
+            UNENDED, THREE_FIRST, *(f"17 over {number}" for number in LATER), NO_OPERATION)]
+
+
+def refused_for(sheet):
+    """The refusal of loading, or None."""
+    try:
+        load(sheet)
+    except Refused as refused:
+        return refused.args[0]
+    return None
 
 
 def met(program, sheet, answer):
@@ -114,6 +126,11 @@ def met(program, sheet, answer):
         found = [NOT_NAMED if field is None else EARLIER_NAMED if int(field) == EARLIER else PRESENT_NAMED]
     elif answer == Refusal(17, 1):
         found = [f"17 for {sort}" for sort, numerals in OTHERS.items() if int(field) in numerals]
+        later = refused_for(re.sub(rb"\t[^\t]*\Z", b"", line) + sheet[len(line):])
+        found += [f"17 over {later.number}"] if later else []
+        found += [NO_OPERATION] if later == Refusal(4, 1) else []
+    elif answer == Refusal(3, 1):
+        found = [THREE_FIRST] if field and int(field) not in (EARLIER, PRESENT) else []
     elif answer == Refusal(2, 1):
         found = [f"2 for a third field with {way}" for way, fields in MISSPELT.items() if field in fields]
         found += [UNENDED] if field and b"\n" not in sheet and re.fullmatch(NUMERAL, field) and int(field) not in (EARLIER, PRESENT) else []

@@ -1,7 +1,7 @@
 """01, "Sets and bends" and refusals 8 to 12, with requests 2, 4 and 9 of 02. Factors are counted from 0 here, and from 1 in refusals and in print.
 
-A sheet of 2016 is rated by 01's table, one of 2014 by Table 2 of source document 001, which is written out apart: neither has a part of the other's but
-for values, slopes and depends-on sets, which are the same in both, and the rounding of the sums over factors.
+A sheet of 2016 is rated by 01's table, one of 2014 by Table 2 of source document 001, which is written out apart: all they have in common is values,
+slopes and depends-on sets, which are the same in both, and how sums over factors are rounded.
 """
 from typing import NamedTuple
 
