@@ -64,7 +64,7 @@ from tidying import TidyComparison
 
 EXAMPLES = Path(__file__).resolve().parent.parent / "examples"
 EXACT_SHARE = 0.5
-OTHER_YEAR_SHARE = 0.15
+OTHER_YEAR_SHARE = 0.2  # beside the figures
 ORDER_ROUNDS = 3  # inputs for each order
 FLEET_ROUNDS = 3  # inputs for each way in which a list of boats is refused, and for each of its edges
 CUT_ROUNDS = 2  # inputs for each way in which a first line is refused, for each order behind one, and for each edge
@@ -171,7 +171,7 @@ class Comparison(Tally):
             complaint += self.rounding_complaint(text, outcome) + self.special_complaint(text, outcome)
             if outcome.sheet.year == EARLIER:
                 self.note_earlier(outcome)
-            if rng is None or rng.random() < OTHER_YEAR_SHARE:
+            if expected is not None or random.Random(text).random() < OTHER_YEAR_SHARE:
                 complaint += self.other_year_complaint(text, outcome)
         loading = (LOADING_ERRORS if ZERO_FIELD.search(text) else []) + (year_errors_of(text) or [AbsentEarlier])
         self.catch_errors(ours, lambda wrong: printed(run(text, wrong.rules, loading=wrong).answer), loading)

@@ -14,6 +14,7 @@ from reference.tidy import Tidying, last_line, operation_at, tidy, tidy_printed
 from tally import Tally, difference
 
 RIGHT = Tidying()
+UNNAMED_SHARE = 0.3  # of the sheets that name 2016, tidied without it, too
 BUFFER_SHARE = 0.2  # of the random sheets, tidied into a buffer of a length of its own
 
 LOADING = (*range(1, 8), 15, 17)  # the refusals that loading gives, and tidying passes on
@@ -92,8 +93,9 @@ class TidyComparison(Tally):
         complaint = "" if ours.startswith(b"factors\t%d\n" % sheet.factors) else "--- 2016 named\n"
         if years.THIRD_FIELD.match(given):
             self.note(f"tidy: 2016 no longer named, {dropped or 'and nothing else dropped'}")
-            self.note("tidy: the same with 2016 named and not named")
-            complaint += difference(self.tidy, sheet_text_with((), sheet), ours)
+            if random.Random(given).random() < UNNAMED_SHARE:
+                self.note("tidy: the same with 2016 named and not named")
+                complaint += difference(self.tidy, sheet_text_with((), sheet), ours)
         return complaint
 
     def buffer_complaint(self, given, ours):
