@@ -126,14 +126,14 @@ module _ {x : Line} (v : ValidLine x) where
   pow-proper m = record {
     value = v .value;
     slope = λ a. (v .value, v .slope a);
-    spectrum = (v .value, (square-proper (reach x), (v .value, extended-proper (v .spectrum))));
+    spectrum = (v .value, (square-proper _, (v .value, extended-proper (v .spectrum))));
   }
 
   inv-proper : holdsZero (x .value) ≡ false → ProperRow (invRow x)
   unfolding invRow unlimited
   inv-proper n =
       let i : Proper (inverse (given (x .value))) = (v .value, n) in
-      record { value = i; slope = λ a. (i, v .slope a); spectrum = (i, ((i, square-proper (reach x)), extended-proper (v .spectrum))) }
+      record { value = i; slope = λ a. (i, v .slope a); spectrum = (i, ((i, square-proper _), extended-proper (v .spectrum))) }
 
 module _ {x y : Line} (v : ValidLine x) (w : ValidLine y) where
   add-proper : ProperRow (addRow x y)

@@ -9,7 +9,7 @@ use lib.Bits.{or-lt}
 use lib.Dec.{T, eqb, eqb→eq}
 use lib.IntN.{ℤ, pos, *ℤ-zero}
 use lib.ListN.{length}
-use lib.Pow.{pow-lt, pow-pos}
+use lib.Pow.{pow-lt, pow-pos, pow-mono}
 use Rattle.codelist.specs.declared.Op.{Op}
 use Rattle.codelist.specs.declared.Op.the-variants.{Add, Mul, AddC, MulC, Pow, Inv}
 use Rattle.codelist.specs.declared.Codelist.{Codelist}
@@ -129,13 +129,16 @@ module _ {n : ℕ} {l m : Line} (h : Sparse n l) (k : Sparse n m) where
       (λ a i o. sum-zero (product-zero (l .value) (right-slope a i o)) (product-zero (m .value) (left-slope a i o)))
 
 -- ---- the limits
+all-few : {m n : ℕ} → m ≤ n → allOf m < 2 ^ n
+all-few {m} {n} h = omega (arith, pow-pos m, pow-mono {i = m} {j = n} h)
+
 pub always-few : (c : Codelist) → alwaysBent c < 2 ^ c .factors
 unfolding bentIn
 always-few c = few (c .year)
   where
     few : (y : Year) → bentIn y (c .factors) < 2 ^ c .factors
     few Y2016 = pow-pos (c .factors)
-    few Y2014 = omega (arith, pow-pos (c .factors))
+    few Y2014 = all-few (omega arith)
 
 abbrev pub SparseLine : ℕ → (Point → Option Jet) → Line → Type 0
 SparseLine n o l = Sparse n l
