@@ -153,7 +153,7 @@ module _ (c : Codelist) (rs : List Range) (w : Ratable c) (count : length rs ≡
   by-year Y2016 = refl
   by-year Y2014 =
       run-in-2014 (c .factors) (w .factors .0) (w .factors .1) (operations c) _
-      (rw (factors-count (allOf (c .factors)) 0 rs, count) (w .each))
+      (rw (factors-count _ 0 rs, count) (w .each))
       (bent-factors (c .factors) 0 rs (omega (arith, count)))
 
   ops : linesOf c rs ≡ publishedOps row (operations c) (publishedFactors (alwaysBent c) 0 rs)

@@ -26,6 +26,7 @@ use Rattle.rules.specs.declared.Line.{Line}
 use Rattle.rules.specs.declared.Limits.{Limits}
 use Rattle.rules.specs.Formula.{sticky}
 use Rattle.rules.specs.Sets.{none, allOf, _∪_}
+use native.Mathlib.Nat as N
 use native.Mathlib.Omega.{arith}
 use Rattle.rules.specs.Table.{Row, reach, factorRow, addRow, addcRow, mulcRow, mulRow, powRow, invRow, lineOf}
 use Rattle.rules.specs.Run.{line, rowOf, bentIn, alwaysBent, within}
@@ -138,7 +139,7 @@ always-few c = few (c .year)
   where
     few : (y : Year) → bentIn y (c .factors) < 2 ^ c .factors
     few Y2016 = pow-pos (c .factors)
-    few Y2014 = all-few (omega arith)
+    few Y2014 = search (all-few, pow-pos, N.le-refl, N.sub-le)
 
 abbrev pub SparseLine : ℕ → (Point → Option Jet) → Line → Type 0
 SparseLine n o l = Sparse n l
