@@ -59,7 +59,7 @@ loadNumbers = 1 ∷ 2 ∷ 3 ∷ 17 ∷ 4 ∷ 5 ∷ 6 ∷ 7 ∷ 15 ∷ []
 
 -- "A refusal carries number and place, every other field is 0": the codelist is the empty one
 unfoldable pub empty : Codelist
-empty = record { year = Y2016; factors = 0; count = 0; ops = replicate 64 blank }
+empty = record { factors = 0; count = 0; year = Y2016; ops = replicate 64 blank }
 
 abbrev pub refused : Refusal → Loaded
 refused r = record { outcome = Refused r; codelist = empty }
@@ -69,7 +69,7 @@ accepted c = record { outcome = Accepted; codelist = c }
 
 -- The codelist of the year y, n factors and the operations ops, which fill the array from the front
 unfoldable pub codelistOf : Year → ℕ → List Entry → Codelist
-codelistOf y n ops = record { year = y; factors = n; count = length ops; ops = ops ++ replicate (64 - length ops) blank }
+codelistOf y n ops = record { factors = n; count = length ops; year = y; ops = ops ++ replicate (64 - length ops) blank }
 
 -- A numeral's value
 unfoldable pub valueOf : Numeral → ℤ

@@ -54,9 +54,9 @@ pub enum Year {
 // Codelist lines 1 to `factors` are the factors, and the next `count` ones are the operations, from the front of `ops`. Every
 // further entry is `Inv(0)`, which is no operation of a codelist.
 pub struct Codelist {
-    pub year: Year,
     pub factors: u8,
     pub count: u8,
+    pub year: Year,
     pub ops: [Entry; 64],
 }
 
@@ -66,9 +66,9 @@ impl Codelist {
         ensures { λ r. ⌜ r ≡ empty ⌝ }
     {
         Self {
-            year: Year::Y2016,
             factors: 0,
             count: 0,
+            year: Year::Y2016,
             ops: [Entry { op: Op::Inv(0) }; 64],
         }
     }

@@ -217,9 +217,9 @@ pub(crate) fn operation_lines(s: &[u8], from: usize, year: Year, n: usize) -> Lo
     Loaded {
         outcome: Outcome::Accepted,
         codelist: Codelist {
-            year: year,
             factors: n as u8,
             count: count as u8,
+            year: year,
             ops: ops,
         },
     }

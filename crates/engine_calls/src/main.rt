@@ -208,9 +208,9 @@ fn inverse(e: Engine) {
 fn written_down(c: i64) {
     let e = Engine {
         codelist: Codelist {
-            year: Year::Y2016,
             factors: 1,
             count: 1,
+            year: Year::Y2016,
             ops: [Entry { op: Op::MulC(1, c) }; 64],
         },
     };
