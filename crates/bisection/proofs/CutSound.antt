@@ -31,7 +31,7 @@ use Rattle.engine.specs.Engine as Engine
 use Rattle.engine.specs.Engine.{ratedOf}
 use Rattle.engine.proofs.Validity.{Valid}
 use Rattle.bisection.specs.declared.Refusal.{Refusal}
-use Rattle.bisection.specs.declared.Refusal.the-variants.{Depth, Rate}
+use Rattle.bisection.specs.declared.Refusal.the-variants.{Rate}
 use Rattle.bisection.specs.declared.Outcome.the-variants.{Accepted, Refused}
 use Rattle.bisection.specs.declared.Bisected.{Bisected}
 use Rattle.bisection.specs.Cut.{parts, leaves, together, outcomeOf, answerOf, cutOf}

@@ -13,7 +13,6 @@ use Rattle.codelist.specs.Codelist.{WellFormed}
 use Rattle.codelist.specs.Load.{loadNumbers}
 use Rattle.codelist.specs.Refused.{RefusedFor}
 use Rattle.codelist.specs.Write.{IsText}
-use Rattle.rules.specs.declared.Limits.{Limits}
 use Rattle.rules.specs.declared.Refusal.the-variants.{NoCodelist}
 use Rattle.rules.specs.Rate.{rateNumbers, noLimits}
 use Rattle.rules.specs.Published.{publishedOf, PublishedLines}

@@ -85,25 +85,24 @@ module _ (p q : Point) where
       first = λ g. given1 _ (h .first g) (λ y e. given-some (record { first = λ a. rw (e .first a) }));
     }
 
-    module _ where
-      pub pow-independent : (m : ℕ) → Independent p q (powJet x m) (using1 (λ x. some (powJet x m)) u) (lineOf (powRow l m))
-      unfolding powJet powRow lineOf
-      pow-independent m = record {
-        value = λ g. given1 _ (h .value g) (λ y e. given-some (record { value = rw (e .value) }));
-        first = λ g. given1 _ (both g) (λ y e. given-some (record { first = λ a. rw (e .0 .value, e .1 .first a) }));
-      }
+    pub pow-independent : (m : ℕ) → Independent p q (powJet x m) (using1 (λ x. some (powJet x m)) u) (lineOf (powRow l m))
+    unfolding powJet powRow lineOf
+    pow-independent m = record {
+      value = λ g. given1 _ (h .value g) (λ y e. given-some (record { value = rw (e .value) }));
+      first = λ g. given1 _ (both g) (λ y e. given-some (record { first = λ a. rw (e .0 .value, e .1 .first a) }));
+    }
 
-      -- z is 1/x, and so 1/y
-      pub inv-independent : (z : ℚ) → x .value *ℚ z ≡ 1ℚ
-          → Independent p q (invJet x z) (using1 (λ x. invert x (recip (x .value))) u) (lineOf (invRow l))
-      unfolding invJet invRow lineOf
-      inv-independent z one = record {
-        value = λ g. given1 _ (h .value g) (λ y e. inverted y (e .value) (record { value = refl }));
-        first = λ g. given1 _ (both g) (λ y e. inverted y (e .0 .value) (record { first = λ a. rw (e .1 .first a) }));
-      }
-        where
-          inverted : {P : Jet → Type 0} (y : Jet) → y .value ≡ x .value → P (invJet y z) → Given P (invert y (recip (y .value)))
-          inverted y e k = rw (e, recip-some (x .value) one) (given-some k)
+    -- z is 1/x, and so 1/y
+    pub inv-independent : (z : ℚ) → x .value *ℚ z ≡ 1ℚ
+        → Independent p q (invJet x z) (using1 (λ x. invert x (recip (x .value))) u) (lineOf (invRow l))
+    unfolding invJet invRow lineOf
+    inv-independent z one = record {
+      value = λ g. given1 _ (h .value g) (λ y e. inverted y (e .value) (record { value = refl }));
+      first = λ g. given1 _ (both g) (λ y e. inverted y (e .0 .value) (record { first = λ a. rw (e .1 .first a) }));
+    }
+      where
+        inverted : {P : Jet → Type 0} (y : Jet) → y .value ≡ x .value → P (invJet y z) → Given P (invert y (recip (y .value)))
+        inverted y e k = rw (e, recip-some (x .value) one) (given-some k)
 
   module _ {x y : Jet} {u v : Option Jet} {l m : Line} (h : Independent p q x u l) (k : Independent p q y v m) where
     left-support : Agree (l .support ∪ m .support) p q → Agree (l .support) p q

@@ -213,8 +213,5 @@ below-single {n} {i} h = below-power n (single i) (pow-lt {i = i} {j = n} h)
 pub below-allOf : (n : ℕ) → Below n (allOf n)
 below-allOf n = below-power n (allOf n) (omega (arith, pow-pos n))
 
-pub below-part : {n s t : ℕ} → s ⊆ t → Below n t → Below n s
-below-part h k = record { below = λ a m. k .below a (h .into a m) }
-
 pub below-all : {n s : ℕ} → Below n s → s ⊆ allOf n
 below-all {n} h = record { into = λ a m. in-all n a (h .below a m) }

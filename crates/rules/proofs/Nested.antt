@@ -1,26 +1,20 @@
 -- In 2016 the bent set lies within the depends-on set. Each row keeps this. Assumes nothing.
-use mathlib.Core.Path.{_≡_, refl}
+use mathlib.Core.Path.{_≡_}
 use mathlib.Core.List.{List}
 use mathlib.Core.Option.{Option}
 use Prim.Native.Nat.{ℕ}
-use lib.IntN.{ℤ}
 use lib.ListN.{length}
 use Rattle.codelist.specs.declared.Op.{Op}
 use Rattle.codelist.specs.declared.Op.the-variants.{Add, Mul, AddC, MulC, Pow, Inv}
-use Rattle.codelist.specs.declared.Codelist.{Codelist}
 use Rattle.codelist.specs.Codelist.{Earlier, WellFormedOp}
 use Rattle.range.specs.declared.Range.{Range}
-use Rattle.range.specs.Sums.{at}
 use Rattle.rules.specs.declared.Line.{Line}
-use Rattle.rules.specs.declared.Limits.{Limits}
 use Rattle.rules.specs.Sets.{none, single}
 use Rattle.rules.specs.Table.{reach, factorRow, addRow, addcRow, mulcRow, mulRow, powRow, invRow, lineOf}
-use Rattle.rules.specs.Run.{line, rowOf, alwaysBent}
-use Rattle.rules.specs.Rate.{pairs, limitsOf, rated, rateOf}
+use Rattle.rules.specs.Run.{line, rowOf}
 use Rattle.rules.specs.Exact.{Point, Jet}
 use Rattle.rules.proofs.Members.{_⊆_, ⊆-refl, ⊆-union, union-in, none-in}
 use Rattle.rules.proofs.Along.{Along, along-line, Kept}
-use Rattle.rules.proofs.Accepted.{accepted, last-line}
 
 abbrev pub NestedLine : (Point → Option Jet) → Line → Type 0
 NestedLine o l = l .nonlinear ⊆ l .support

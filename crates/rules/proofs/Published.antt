@@ -26,12 +26,11 @@ use Rattle.rules.specs.declared.Line.{Line}
 use Rattle.rules.specs.declared.Refusal.{Refusal}
 use Rattle.rules.specs.declared.Limits.{Limits}
 use Rattle.rules.specs.declared.Rating.{Rating}
-use Rattle.rules.specs.declared.Refusal.the-variants.{NoCodelist, RangeCount}
 use Rattle.rules.specs.Formula.{Formula, given, sticky, unlimited, produced}
 use Rattle.rules.specs.Sets.{allOf}
-use Rattle.rules.specs.Table.{Row, factorRow, extended, eight, lineOf}
+use Rattle.rules.specs.Table.{Row, factorRow, extended, lineOf}
 use Rattle.rules.specs.Run.{noLine, line, rowOf, invertsZero, eachValid, within, Lines, through, stopped, runOps, factorLines, bentIn, alwaysBent, linesOf, operations}
-use Rattle.rules.specs.Rate.{last, limitsOf, rated, refused, pairs, finished, firstBad, rateRanges, rateOf}
+use Rattle.rules.specs.Rate.{last, limitsOf, rated, pairs, finished, firstBad, rateRanges, rateOf}
 use Rattle.rules.specs.Overflow.{allWithin, stepsOf, AllLines, none, more}
 use Rattle.rules.specs.Published.{publishedLine, publishedFactors, publishedRow, publishedOps, publishedLimits, publishedResult, publishedRanges, publishedOf}
 use Rattle.rules.specs.Published.{PublishedLines, Published}

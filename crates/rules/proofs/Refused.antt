@@ -1,9 +1,9 @@
 -- Rating refuses exactly as 01's tables say: `refused-exactly`. Assumes nothing.
 use mathlib.Core.Path.{_≡_, refl, sym, ap, subst, _∙_}
 use mathlib.Core.Bool.{Bool, true, false, cond}
-use mathlib.Core.List.{List, [], _∷_}
+use mathlib.Core.List.{List}
 use mathlib.Core.Logic.{_⊎_, inl, inr, _↔_}
-use Prim.Native.Nat.{ℕ, zero, suc, _+_, _*_, _-_, _≤_, _<_}
+use Prim.Native.Nat.{ℕ, zero, suc, _*_, _-_, _≤_, _<_}
 use native.Mathlib.Omega.{arith}
 use lib.Dec.{eqb}
 use lib.IntN.{ℤ}
@@ -12,7 +12,6 @@ use borrow.Author.Tests.{eq-eqb, eqb-true}
 use Rattle.codelist.specs.declared.Codelist.{Codelist}
 use Rattle.codelist.specs.Codelist.{Ratable, ratable}
 use Rattle.codelist.proofs.Ratable.{decides}
-use Rattle.range.specs.declared.Range.{Range}
 use Rattle.rules.specs.declared.Refusal.{Refusal}
 use Rattle.rules.specs.declared.Refusal.the-variants.{NoCodelist, RangeCount, BadRange, Divisor, Overflow}
 use Rattle.rules.specs.declared.Outcome.the-variants.{Refused}

@@ -1,6 +1,6 @@
 -- What the limits are apart from any point: `shaped`. A line depends on some factor, and where it is bent in none its spectrum is zero. Each
 -- row within the limit keeps this. Assumes nothing.
-use mathlib.Core.Path.{_≡_, refl, sym, _∙_}
+use mathlib.Core.Path.{_≡_, refl}
 use mathlib.Core.List.{List}
 use mathlib.Core.Option.{Option}
 use Prim.Native.Nat.{ℕ}

@@ -25,7 +25,7 @@ use Rattle.range.proofs.Holds.{IfValid, sticky₁-holds, sticky₂-holds}
 use Rattle.rules.specs.declared.Line.{Line}
 use Rattle.rules.specs.declared.Limits.{Limits}
 use Rattle.rules.specs.Formula.{sticky}
-use Rattle.rules.specs.Sets.{none, allOf, _∪_}
+use Rattle.rules.specs.Sets.{allOf, _∪_}
 use native.Mathlib.Nat as N
 use native.Mathlib.Omega.{arith}
 use Rattle.rules.specs.Table.{Row, reach, factorRow, addRow, addcRow, mulcRow, mulRow, powRow, invRow, lineOf}
@@ -139,6 +139,7 @@ always-few c = few (c .year)
   where
     few : (y : Year) → bentIn y (c .factors) < 2 ^ c .factors
     few Y2016 = pow-pos (c .factors)
+    -- over whatever bounds such a set, so that another one is refused where the lines' own sets are spoken of, and not here
     few Y2014 = search (all-few, pow-pos, N.le-refl, N.sub-le)
 
 abbrev pub SparseLine : ℕ → (Point → Option Jet) → Line → Type 0

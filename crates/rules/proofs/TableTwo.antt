@@ -58,7 +58,7 @@ all-twice n = all-union n (allOf n) (omega (arith, pow-pos n))
 all-same : (n : ℕ) → eqb (allOf n) (allOf n) ≡ true
 all-same n = eq-eqb (allOf n) (allOf n) refl
 
-pub reach-all : {n : ℕ} {x : Line} → Bent n x → reach x ≡ allOf n
+reach-all : {n : ℕ} {x : Line} → Bent n x → reach x ≡ allOf n
 reach-all {n} {x} b = rw (b .nonlinear) (all-union n (x .support) (b .support))
 
 -- no two lines meet request 4's test

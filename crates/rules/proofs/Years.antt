@@ -1,11 +1,9 @@
 -- What the year says of the sets, and what it does not touch: `year-sets`, `nested`, `all-bent`, `same-elsewhere`. Assumes nothing.
-use mathlib.Core.Path.{_≡_, refl, sym, _∙_, ap, subst}
-use mathlib.Core.Bool.{true, cond}
+use mathlib.Core.Path.{_≡_, refl, sym, ap, subst}
 use mathlib.Core.List.{List}
 use mathlib.Core.Option.{Option}
 use Prim.Native.Nat.{ℕ, _<_}
 use borrow.Author.Tests.{eq-eqb}
-use lib.IntN.{ℤ}
 use Rattle.codelist.specs.declared.Op.{Op}
 use Rattle.codelist.specs.declared.Op.the-variants.{Add, Mul, AddC, MulC, Pow, Inv}
 use Rattle.codelist.specs.declared.Entry.{Entry}
@@ -14,11 +12,8 @@ use Rattle.codelist.specs.declared.Year.{Year}
 use Rattle.codelist.specs.declared.Year.the-variants.{Y2016, Y2014}
 use Rattle.codelist.specs.Codelist.{Ratable}
 use Rattle.range.specs.declared.Range.{Range}
-use Rattle.range.specs.Limit.{zeroRange}
-use Rattle.range.specs.Arithmetic.{hullOf}
 use Rattle.range.specs.Sums.{at}
 use Rattle.rules.specs.declared.Line.{Line}
-use Rattle.rules.specs.declared.Limits.{Limits}
 use Rattle.rules.specs.Sets.{none, allOf}
 use Rattle.rules.specs.Formula.{given, sticky}
 use Rattle.rules.specs.Table.{extended, factorRow, addRow, addcRow, mulcRow, mulRow, powRow, invRow, lineOf}
@@ -26,7 +21,7 @@ use Rattle.rules.specs.Run.{noLine, line, rowOf, through, runOps, factor
 use Rattle.rules.specs.Rate.{last, limitsOf, pairs}
 use Rattle.rules.specs.Exact.{Point, Jet}
 use Rattle.rules.specs.TableTwo.{Bent}
-use Rattle.rules.specs.Years.{YearSets, NestedRating, AllBent, AllBentRating, SameElsewhere}
+use Rattle.rules.specs.Years.{YearSets, NestedRating, AllBentRating, SameElsewhere}
 use Rattle.rules.proofs.Members.{part-union}
 use Rattle.rules.proofs.Along.{along-line, Kept}
 use Rattle.rules.proofs.Accepted.{accepted, run-lines, last-line}
