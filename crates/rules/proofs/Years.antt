@@ -4,13 +4,14 @@ use mathlib.Core.List.{List}
 use mathlib.Core.Option.{Option}
 use Prim.Native.Nat.{ℕ, _<_}
 use borrow.Author.Tests.{eq-eqb}
+use lib.ListN.{length}
 use Rattle.codelist.specs.declared.Op.{Op}
 use Rattle.codelist.specs.declared.Op.the-variants.{Add, Mul, AddC, MulC, Pow, Inv}
 use Rattle.codelist.specs.declared.Entry.{Entry}
 use Rattle.codelist.specs.declared.Codelist.{Codelist}
 use Rattle.codelist.specs.declared.Year.{Year}
 use Rattle.codelist.specs.declared.Year.the-variants.{Y2016, Y2014}
-use Rattle.codelist.specs.Codelist.{Ratable}
+use Rattle.codelist.specs.Codelist.{Earlier, Ratable}
 use Rattle.range.specs.declared.Range.{Range}
 use Rattle.range.specs.Sums.{at}
 use Rattle.rules.specs.declared.Line.{Line}
@@ -21,8 +22,8 @@ use Rattle.rules.specs.Run.{noLine, line, rowOf, through, runOps, factor
 use Rattle.rules.specs.Rate.{last, limitsOf, pairs}
 use Rattle.rules.specs.Exact.{Point, Jet}
 use Rattle.rules.specs.TableTwo.{Bent}
-use Rattle.rules.specs.Years.{YearSets, NestedRating, AllBentRating, SameElsewhere}
-use Rattle.rules.proofs.Members.{part-union}
+use Rattle.rules.specs.Years.{Through, YearSets, NestedRating, AllBentRating, SameElsewhere}
+use Rattle.rules.proofs.Members.{_⊆_, part-union}
 use Rattle.rules.proofs.Along.{along-line, Kept}
 use Rattle.rules.proofs.Accepted.{accepted, run-lines, last-line}
 use Rattle.rules.proofs.Nested.{NestedLine, factor-nested, nested-kept}
@@ -70,16 +71,20 @@ all-bent c xs l y e =
     let b = last-line (BentLine (c .factors)) (bent-kept c y (A .codelist)) A (λ a k. bent-first c y a (at (pairs xs) a) k) .nonlinear in
     rw (A .limits) (record { nonlinear = b; full = not-lifted (last (A .lines) .spectrum) b })
 
+line-nested : (c : Codelist) {rs : List Range} {ls : List Line} → c .year ≡ Y2016 → Through c rs ls
+    → (i : ℕ) → Earlier (length ls) i → line ls i .nonlinear ⊆ line ls i .support
+line-nested c {rs} y t i k =
+    along-line NestedLine i k
+    (run-lines NestedLine nested-kept rs (t .codelist) (t .count) (t .ran) (λ a h. factor-nested a (at rs a) (none-always c y)))
+
 pub year-sets : YearSets
 year-sets = record {
   all-bent = λ c rs ls y t i k.
       along-line (BentLine (c .factors)) i k
       (run-lines (BentLine (c .factors)) (bent-kept c y (t .codelist)) rs (t .codelist) (t .count) (t .ran) (λ a h. bent-first c y a (at rs a) h))
       .nonlinear;
-  reach-is = λ c rs ls y t i k.
-      part-union (line ls i .support) (line ls i .nonlinear)
-      (along-line NestedLine i k
-      (run-lines NestedLine nested-kept rs (t .codelist) (t .count) (t .ran) (λ a h. factor-nested a (at rs a) (none-always c y))));
+  nested = λ c rs ls y t i k. line-nested c y t i k .into;
+  reach-is = λ c rs ls y t i k. part-union (line ls i .support) (line ls i .nonlinear) (line-nested c y t i k);
 }
 
 -- ---- the rest

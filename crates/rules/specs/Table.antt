@@ -60,8 +60,8 @@ spectrumOf x = given (x .spectrum)
 abbrev constant : ℤ → Formula
 constant c = given (fromTo c c)
 
--- Where 01's rows have P_i as a set of a bend: the bent set, where a line's B is within its P (2016: `Years`), is part of it, and this is P_i; where
--- every line's B is "all factors" (02, request 9, 2014), this is all factors, so that the rows of `mul`, `pow` and `inv` are those of both years.
+-- What the bend of a `mul`, `pow` or `inv` is over, of each line that it refers to. 01 has P_i there ("both P_i"). In 2016 a line's B is part of its P,
+-- so that this is P_i (`YearSets` of Years); in 2014 every line's B is all factors (02, request 9), and so is this: one table serves both years.
 abbrev pub reach : Line → ℕ
 reach x = x .support ∪ x .nonlinear
 

@@ -29,7 +29,9 @@ pub record YearSets : Type 0 where
   -- "2014 means .. every line's bent set all factors": that of factor lines, `addc` and `mulc` too
   pub all-bent : (c : Codelist) (rs : List Range) (ls : List Line) → c .year ≡ Y2014 → Through c rs ls
       → (i : ℕ) → Earlier (length ls) i → line ls i .nonlinear ≡ allOf (c .factors)
-  -- "2016, or absent, means the rules so far": what a row has in place of 01's P (`reach` of Table) is P
+  -- "2016, or absent, means the rules so far": a line's B lies within its P, so that what a row has in place of 01's P (`reach` of Table) is P
+  pub nested : (c : Codelist) (rs : List Range) (ls : List Line) → c .year ≡ Y2016 → Through c rs ls
+      → (i : ℕ) → Earlier (length ls) i → (a : ℕ) → T (has (line ls i .nonlinear) a) → T (has (line ls i .support) a)
   pub reach-is : (c : Codelist) (rs : List Range) (ls : List Line) → c .year ≡ Y2016 → Through c rs ls
       → (i : ℕ) → Earlier (length ls) i → reach (line ls i) ≡ line ls i .support
 
