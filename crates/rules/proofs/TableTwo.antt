@@ -30,23 +30,23 @@ use Rattle.rules.proofs.Stopped.{all-snoc}
 
 -- ---- the set of all factors
 -- what the table's tests say of it
-record Whole (n : ℕ) : Type 0 where
+record AllFactors (n : ℕ) : Type 0 where
   single : isSingle (allOf n) ≡ eqb n 1
   first : only (allOf n) ≡ 0
   shared : apart (allOf n) (allOf n) ≡ false
 
-whole : (n : ℕ) → 1 ≤ n → n ≤ 8 → Whole n
+all-factors : (n : ℕ) → 1 ≤ n → n ≤ 8 → AllFactors n
 unfolding apart isSingle only ones onesIn trailingZeros
-whole zero l m = absurd (omega arith)
-whole (suc zero) l m = record { single = refl; first = refl; shared = refl }
-whole (suc (suc zero)) l m = record { single = refl; first = refl; shared = refl }
-whole (suc (suc (suc zero))) l m = record { single = refl; first = refl; shared = refl }
-whole (suc (suc (suc (suc zero)))) l m = record { single = refl; first = refl; shared = refl }
-whole (suc (suc (suc (suc (suc zero))))) l m = record { single = refl; first = refl; shared = refl }
-whole (suc (suc (suc (suc (suc (suc zero)))))) l m = record { single = refl; first = refl; shared = refl }
-whole (suc (suc (suc (suc (suc (suc (suc zero))))))) l m = record { single = refl; first = refl; shared = refl }
-whole (suc (suc (suc (suc (suc (suc (suc (suc zero)))))))) l m = record { single = refl; first = refl; shared = refl }
-whole (suc (suc (suc (suc (suc (suc (suc (suc (suc n))))))))) l m = absurd (omega arith)
+all-factors zero l m = absurd (omega arith)
+all-factors (suc zero) l m = record { single = refl; first = refl; shared = refl }
+all-factors (suc (suc zero)) l m = record { single = refl; first = refl; shared = refl }
+all-factors (suc (suc (suc zero))) l m = record { single = refl; first = refl; shared = refl }
+all-factors (suc (suc (suc (suc zero)))) l m = record { single = refl; first = refl; shared = refl }
+all-factors (suc (suc (suc (suc (suc zero))))) l m = record { single = refl; first = refl; shared = refl }
+all-factors (suc (suc (suc (suc (suc (suc zero)))))) l m = record { single = refl; first = refl; shared = refl }
+all-factors (suc (suc (suc (suc (suc (suc (suc zero))))))) l m = record { single = refl; first = refl; shared = refl }
+all-factors (suc (suc (suc (suc (suc (suc (suc (suc zero)))))))) l m = record { single = refl; first = refl; shared = refl }
+all-factors (suc (suc (suc (suc (suc (suc (suc (suc (suc n))))))))) l m = absurd (omega arith)
 
 all-union : (n s : ℕ) → s < 2 ^ n → s ∪ allOf n ≡ allOf n
 all-union n s h =
@@ -67,8 +67,8 @@ never true = refl
 never false = refl
 
 module _ (n : ℕ) (l : 1 ≤ n) (m : n ≤ 8) (ls : List Line) (bent : (i : ℕ) → Earlier (length ls) i → Bent n (line ls i)) where
-  W : Whole n
-  W = whole n l m
+  all : AllFactors n
+  all = all-factors n l m
 
   same-row : (o : Op) → WellFormedOp (length ls) o → SameRow (rowOf o ls) (rowIn2014 n o ls)
   unfolding rowOf rowIn2014 tableTwo addRow addcRow mulcRow mulRow powRow invRow unlimited produced
@@ -76,14 +76,14 @@ module _ (n : ℕ) (l : 1 ≤ n) (m : n ≤ 8) (ls : List Line) (bent : (i : ℕ
       let b = bent i (f .0) .nonlinear in
       let c = bent j (f .1) .nonlinear in
       record {
-        spectrum = rw (b, c, all-twice n, W .shared, all-same n) (record { sticky = refl; unlimited = refl; produced = refl });
+        spectrum = rw (b, c, all-twice n, all .shared, all-same n) (record { sticky = refl; unlimited = refl; produced = refl });
         nonlinear = rw (b, c) (all-twice n);
       }
   same-row (Mul i j) f =
       let b = bent i (f .0) in
       let c = bent j (f .1) in
       record {
-        spectrum = rw (reach-all b, reach-all c, b .nonlinear, c .nonlinear, all-twice n, W .shared, W .single, W .first, all-same n, never (eqb n 1))
+        spectrum = rw (reach-all b, reach-all c, b .nonlinear, c .nonlinear, all-twice n, all .shared, all .single, all .first, all-same n, never (eqb n 1))
             (record { sticky = refl; unlimited = refl; produced = refl });
         nonlinear = rw (reach-all b, reach-all c) (all-twice n);
       }
@@ -92,13 +92,13 @@ module _ (n : ℕ) (l : 1 ≤ n) (m : n ≤ 8) (ls : List Line) (bent : (i : ℕ
   same-row (Pow i k) f =
       let b = bent i (f .0) in
       record {
-        spectrum = rw (reach-all b, b .nonlinear, W .single, W .first, all-same n) (record { sticky = refl; unlimited = refl; produced = refl });
+        spectrum = rw (reach-all b, b .nonlinear, all .single, all .first, all-same n) (record { sticky = refl; unlimited = refl; produced = refl });
         nonlinear = reach-all b;
       }
   same-row (Inv i) f =
       let b = bent i f in
       record {
-        spectrum = rw (reach-all b, b .nonlinear, W .single, W .first, all-same n) (record { sticky = refl; unlimited = refl; produced = refl });
+        spectrum = rw (reach-all b, b .nonlinear, all .single, all .first, all-same n) (record { sticky = refl; unlimited = refl; produced = refl });
         nonlinear = reach-all b;
       }
 
