@@ -5,15 +5,16 @@ use mathlib.Core.Bool.{Bool, true, false, cond, _&&_}
 use mathlib.Core.List.{List, [], _∷_}
 use mathlib.Core.Option.{none, some, Option·getD}
 use mathlib.Core.Path.{_≡_, refl, sym, ap, _∙_}
+use native.Mathlib.Nat.{zero-add}
 use native.Mathlib.Omega.{arith}
-use lib.ListN.{length, getD, replicate, length-append, length-replicate}
+use lib.ListN.{length, getD, replicate, length-append, length-replicate, List·getD-append}
 use lib.Seq.{take-append-seam}
 use Rattle.codelist.specs.declared.Codelist.{Codelist}
 use Rattle.codelist.specs.declared.Entry.{Entry}
 use Rattle.codelist.specs.declared.Op.{Op}
 use Rattle.codelist.specs.declared.Op.the-variants.{Inv}
 use Rattle.codelist.specs.declared.Year.{Year}
-use Rattle.codelist.specs.Codelist.{blank, wellFormedOp, wellFormedOps, ratable}
+use Rattle.codelist.specs.Codelist.{blank, wellFormedOp, wellFormedOps, inBounds, ratable}
 use Rattle.codelist.specs.Load.{empty, codelistOf}
 use Rattle.codelist.proofs.Ratable.{by-operations}
 use Rattle.encoding.specs.declared.HeadRead.the-variants as head
@@ -31,12 +32,12 @@ unfoldable pub entries : List ℕ → ℕ → ℕ → ℕ → List Entry
 entries b e k zero = []
 entries b e k (suc m) = record { op = opOr (opAt b k e) } ∷ entries b (e + 1) (k + 1) m
 
-pub entries-length : (b : List ℕ) (e k m : ℕ) → length (entries b e k m) ≡ m
+entries-length : (b : List ℕ) (e k m : ℕ) → length (entries b e k m) ≡ m
 unfolding entries
 entries-length b e k zero = refl
 entries-length b e k (suc m) = ap suc (entries-length b (e + 1) (k + 1) m)
 
-pub entry-at : (b : List ℕ) (e k m j : ℕ) (d : Entry) → j < m → getD (entries b e k m) j d .op ≡ opOr (opAt b (k + j) (e + j))
+entry-at : (b : List ℕ) (e k m j : ℕ) (d : Entry) → j < m → getD (entries b e k m) j d .op ≡ opOr (opAt b (k + j) (e + j))
 unfolding entries
 entry-at b e k zero j d h = absurd (omega arith)
 entry-at b e k (suc m) zero d h =
@@ -57,7 +58,7 @@ entry-tested b k e = go (opAt b k e) refl
     go (Good o) p = found b k e o p .tested
     go Bad p = refl
 
-pub entries-tested : (b : List ℕ) (e k m : ℕ) → wellFormedOps e (entries b e k m) ≡ areOps b e k m
+entries-tested : (b : List ℕ) (e k m : ℕ) → wellFormedOps e (entries b e k m) ≡ areOps b e k m
 unfolding entries areOps wellFormedOps
 entries-tested b e k zero = refl
 entries-tested b e k (suc m) = rw (entry-tested b k e, entries-tested b (e + 1) (k + 1) m)
@@ -74,6 +75,16 @@ sequence-is b e k (suc m) = rw (sequence-is b (e + 1) (k + 1) m) (go (opAt b k e
     go (Good o) false = refl
     go Bad t = refl
 
+-- What a reader knows of the codelist c of what was read: it can be rated exactly where the bytes hold a codelist
+pub record Lent (b : List ℕ) (n m : ℕ) (y : Year) (c : Codelist) : Type 0 where
+  pub factors : c .factors ≡ n
+  pub count : c .count ≡ m
+  pub year : c .year ≡ y
+  pub fits : inBounds c ≡ true
+  pub array : length (c .ops) ≡ 64
+  pub op : (j : ℕ) (d : Entry) → j < m → getD (c .ops) j d .op ≡ opOr (opAt b j (n + j))
+  pub held : ratable c ≡ holdsCodelist b
+
 -- The codelist of what was read
 module _ (b : List ℕ) (n m : ℕ) (y : Year) (h : headOf b ≡ head.Good n m y) where
   pub lent : Codelist
@@ -87,35 +98,44 @@ module _ (b : List ℕ) (n m : ℕ) (y : Year) (h : headOf b ≡ head.Good n m y
       go true = refl
       go false = refl
 
-  -- IT IS THE CODELIST THAT THE BYTES HOLD, where its operations are well formed; else they hold none
-  pub lent-is : lentCodelist b ≡ cond (areOps b n 0 m) lent empty
+  -- the bytes hold a codelist where its operations are well formed
+  pub held-is : holdsCodelist b ≡ areOps b n 0 m
+  unfolding holdsCodelist
+  held-is = rw decoded-is (go (areOps b n 0 m))
+    where
+      go : (t : Bool) → held (cond t (some lent) none) ≡ t
+      go true = refl
+      go false = refl
+
+  -- and it is this one
+  pub lent-is : lentCodelist b ≡ cond (holdsCodelist b) lent empty
   unfolding lentCodelist
-  lent-is = rw decoded-is (go (areOps b n 0 m))
+  lent-is = rw (decoded-is, held-is) (go (areOps b n 0 m))
     where
       go : (t : Bool) → Option·getD (cond t (some lent) none) empty ≡ cond t lent empty
       go true = refl
       go false = refl
 
-  -- and it is ratable exactly there
-  pub lent-ratable : ratable lent ≡ areOps b n 0 m
+  pub lent-known : Lent b n m y lent
   unfolding lent codelistOf
-  lent-ratable =
+  lent-known =
       let xs = entries b n 0 m in
-      let l = entries-length b n 0 m in
-      let z : length (replicate (64 - length xs) blank) ≡ 64 - length xs = length-replicate (64 - length xs) blank in
+      let blanks = replicate (64 - length xs) blank in
+      let many = entries-length b n 0 m in
+      let z : length blanks ≡ 64 - length xs = length-replicate (64 - length xs) blank in
       let few = head-sound b n m y h .counted .few in
-      let long : length (lent .ops) ≡ 64 = omega (arith, length-append xs (replicate (64 - length xs) blank), few) in
-      sym (by-operations lent (ap (countsFit n) l ∙ head-sound b n m y h .fit) long)
-      ∙ ap (wellFormedOps n) (take-append-seam xs (replicate (64 - length xs) blank)) ∙ entries-tested b n 0 m
-
-  -- and there alone the bytes hold a codelist
-  pub lent-held : holdsCodelist b ≡ areOps b n 0 m
-  unfolding holdsCodelist
-  lent-held = rw decoded-is (go (areOps b n 0 m))
-    where
-      go : (t : Bool) → held (cond t (some lent) none) ≡ t
-      go true = refl
-      go false = refl
+      let fits = ap (countsFit n) many ∙ head-sound b n m y h .fit in
+      let long : length (lent .ops) ≡ 64 = omega (arith, length-append xs blanks, few) in
+      record {
+        factors = refl;
+        count = many;
+        year = refl;
+        fits = fits;
+        array = long;
+        op = λ j d g. ap (λ (x : Entry). x .op) (List·getD-append xs blanks d j (omega arith)) ∙ entry-at b n 0 m j d g
+            ∙ ap (λ (k : ℕ). opOr (opAt b k (n + j))) (zero-add j);
+        held = sym (by-operations lent fits long) ∙ ap (wellFormedOps n) (take-append-seam xs blanks) ∙ entries-tested b n 0 m ∙ sym held-is;
+      }
 
 -- Bytes with no head hold none
 pub none-held : (b : List ℕ) → headOf b ≡ head.Bad → holdsCodelist b ≡ false
