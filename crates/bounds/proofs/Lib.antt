@@ -15,3 +15,4 @@ pub mod Ranges
 pub mod Running
 pub mod Starting
 pub mod Answers
+pub mod Reading

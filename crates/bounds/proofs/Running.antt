@@ -250,7 +250,7 @@ module _ {c : Codelist} {rs : List Range} {t : List ℤ} {s : List ℕ} {g : Lis
 
   -- the operation as the code reads it, which past the array's end would be d
   module _ (d : Entry) where
-    abbrev op : Op
+    abbrev pub op : Op
     op = getD (c .ops) (k - c .factors) d .op
 
     -- 10

@@ -25,7 +25,7 @@ use rules::Outcome;
 use rules::Rating;
 use rules::Refusal;
 
-fn refuse(r: Refusal) -> Rating
+pub(crate) fn refuse(r: Refusal) -> Rating
     ensures { λ a. ⌜ a ≡ refused r ⌝ }
 {
     let limits = Limits::ZERO;
@@ -36,7 +36,13 @@ fn refuse(r: Refusal) -> Rating
 }
 
 // The result is that of the line k, whose slopes are given, with its spectrum extended to all n factors besides.
-fn result(t: &[i32; 1280], s: &[u8; 128], n: u8, k: usize, gradient: [Range; 8]) -> Rating
+pub(crate) fn result(
+    t: &[i32; 1280],
+    s: &[u8; 128],
+    n: u8,
+    k: usize,
+    gradient: [Range; 8],
+) -> Rating
     requires { ⌜ n ≤ 8 ⌝ }
     requires { ⌜ k < 64 ⌝ }
     requires { ⌜ Fine (lineAt (now t) (now s) k) ⌝ }
@@ -86,7 +92,7 @@ fn index(i: u8) -> usize
 }
 
 // The factors that every line is bent in: none, or, in 2014, all (02, request 9). The one place where the year is looked at.
-fn bent_in(year: Year, n: u8) -> u8
+pub(crate) fn bent_in(year: Year, n: u8) -> u8
     requires { ⌜ n ≤ 8 ⌝ }
     ensures { λ r. ⌜ r ≡ bentIn year n ⌝ }
 {
@@ -97,7 +103,13 @@ fn bent_in(year: Year, n: u8) -> u8
 }
 
 // The lines of the n factors, with the bent set b. What is given back is the slopes of the last.
-fn start(t: &mut [i32; 1280], s: &mut [u8; 128], xs: &[i64], b: u8, n: usize) -> [Range; 8]
+pub(crate) fn start(
+    t: &mut [i32; 1280],
+    s: &mut [u8; 128],
+    xs: &[i64],
+    b: u8,
+    n: usize,
+) -> [Range; 8]
     requires { ⌜ Ready (now t) (now s) 0 ⌝ }
     requires { ⌜ length (pairs (now xs)) ≡ n ⌝ }
     requires { ⌜ (1 ≤ n) × (n ≤ 8) ⌝ }
@@ -116,7 +128,7 @@ fn start(t: &mut [i32; 1280], s: &mut [u8; 128], xs: &[i64], b: u8, n: usize) ->
 }
 
 // Refusal 11: whether the operation inverts a range that holds 0.
-fn inverts_zero(t: &[i32; 1280], op: Op, k: usize) -> bool
+pub(crate) fn inverts_zero(t: &[i32; 1280], op: Op, k: usize) -> bool
     requires { ⌜ WellFormedOp k op ⌝ }
     requires { ⌜ k < 64 ⌝ }
     ensures { λ r. ⌜ ((s : List ℕ) → r ≡ invertsZero op (linesUpTo (now (t .entry)) s k)) ⌝ }
@@ -132,7 +144,7 @@ fn inverts_zero(t: &[i32; 1280], op: Op, k: usize) -> bool
 }
 
 // The line k, counted from 0, of its operation. The answer is its slopes, and whether all its ranges are valid.
-fn work(t: &mut [i32; 1280], s: &mut [u8; 128], op: Op, k: usize) -> Slopes
+pub(crate) fn work(t: &mut [i32; 1280], s: &mut [u8; 128], op: Op, k: usize) -> Slopes
     requires { ⌜ WellFormedOp k op ⌝ }
     requires { ⌜ Ready (now t) (now s) k ⌝ }
     requires { ⌜ k < 64 ⌝ }
