@@ -27,12 +27,9 @@ closing line counts each input once for each program.
 """
 import argparse
 import json
-import multiprocessing
 import os
-import pickle
 import random
 import sys
-import tempfile
 from pathlib import Path
 
 import cuts
@@ -58,6 +55,7 @@ from reference.sheet import EARLIER, PRESENT, load, sheet_text_with
 from reference.sisters import sisters_printed
 from reference.text import parted, printed, run
 from reference.tidy import tidy_printed
+from shares import all_compared, missed_by
 from sister_boats import SistersComparison
 from tally import DIFFERENCES_SHOWN, Tally, difference, print_of, unlike
 from tidying import TidyComparison
@@ -510,7 +508,7 @@ def main():
             parser.error(f"no program {path}")
     if arguments.jobs < 1:
         parser.error("--jobs: at least 1")
-    sys.exit(not concluded(compared(arguments, slice(None)) if arguments.jobs == 1 else added_up(arguments)))
+    sys.exit(not concluded(all_compared(compared, arguments)))
 
 
 def compared(arguments, share):
@@ -542,45 +540,9 @@ def compared(arguments, share):
     return [comparison for comparison in (rating, tidying, paging, cutting, sisters) if comparison]
 
 
-def added_up(arguments):
-    """The comparisons with all the inputs, dealt out to processes in turn. Where one of them fails, or is killed, so does the run."""
-    context = multiprocessing.get_context("fork")
-    started = []
-    for first in range(arguments.jobs):
-        file = tempfile.TemporaryFile()
-        process = context.Process(target=write_compared, args=(file, arguments, slice(first, None, arguments.jobs)), daemon=True)
-        process.start()
-        started.append((process, file))
-    comparisons = []
-    for process, file in started:
-        process.join()
-        if process.exitcode != 0:
-            sys.exit(f"a process of the comparison ended with {process.exitcode}")
-        file.seek(0)
-        comparisons.append(pickle.load(file))
-    total, *others = comparisons
-    for other in others:
-        for comparison, more in zip(total, other):
-            comparison.add(more)
-    for comparison in total:
-        comparison.show_kept()
-    return total
-
-
-def write_compared(file, arguments, share):
-    """What one of several processes does. A file takes any number of bytes, so that the process ends whether or not it is waited for."""
-    Tally.at_once = False
-    with file:
-        pickle.dump(compared(arguments, share), file)
-
-
 def concluded(comparisons):
     """Prints what was met, what was not, and the count; whether all is well."""
-    for comparison in comparisons:
-        comparison.conclude()
-    missed = [rule for comparison in comparisons for rule in comparison.missed()]
-    for rule in missed:
-        print(rule)
+    missed = missed_by(comparisons)
     passed, failed = (sum(counts) for counts in zip(*((comparison.passed, comparison.failed) for comparison in comparisons)))
     print(f"{passed} passed, {failed} failed")
     return not missed and failed == 0
