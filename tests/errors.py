@@ -8,14 +8,18 @@ it comes; and of request 9: of which years are taken, of what else stands in a t
 misses of what is used, what is kept, how it is renumbered and when the year is named; those of the fleet page (request 3), of what a boat is, of what
 is counted, summed and compared, and of which lists are taken; those of classes cut finer (request 6), of which range is cut, where and how often, of
 what is made of the two halves, of which depths are taken, and of the first line; those of sister boats (request 7), of which products are summed and
-how the sums are rounded, of which boats are taken and when that is asked, and of the boat lines. Of these three the year can be forgotten, too.
+how the sums are rounded, of which boats are taken and when that is asked, and of the boat lines. Of these three the year can be forgotten, too. Those of
+the C functions (request 10) are near misses of the code, of what is written and when, of which desks are empty, of which doubles are whole numbers, of
+the order of refusals, and of the two records.
 """
 import re
-from math import isqrt
+import struct
+from math import isfinite, isqrt
 
 from reference.cut import DEPTH_LINE, Cutting
 from reference.fleet import MOST_INPUT, RECORD, Fleet, rated
 from reference.outcome import Refusal, Refused, refuse, unnoted
+from reference.quoting import DESK, ENTRY, HEAD, RANGES, RESULT, Quoting
 from reference.ranges import LIMIT, UNIT, ZERO, PastLimit, Range
 from reference.rating import SPECIAL_LIMIT, Result, Rules, ranges_of
 from reference.sheet import (
@@ -3357,4 +3361,588 @@ SISTER_LINE_ERRORS = [
     FewerNumerals, EightNumerals, AnyLines, LinePerFactor, OneNumeralMore,
     BoatsZerosInFront, BoatsMinusZero, BoatsPlus, BoatsMinusAlone, BoatsTwoMinus, BoatsEmptyField, BoatsElevenDigits, BoatsElevenDigitsOutside,
     BoatsPoint, BoatsLetters, BoatsBlanksAround, BoatsBlanks, BoatsTabs, BoatsTabInFront, BoatsTabBehind, BoatsByte13, BoatsByte0,
+]
+
+
+# ---- the C functions
+
+class PlaceTimesTen(Quoting):
+    """A code with 10 times the place."""
+    def code(self, refusal):
+        return refusal.number + 10 * refusal.place
+
+
+class PlaceForgotten(Quoting):
+    """A code without the place."""
+    def code(self, refusal):
+        return refusal.number
+
+
+class PlaceFirst(Quoting):
+    """A code with 100 times the number, and the place."""
+    def code(self, refusal):
+        return 100 * refusal.number + refusal.place
+
+
+class CodeOfOneByte(Quoting):
+    """A code of which one byte is left."""
+    def code(self, refusal):
+        return super().code(refusal) % 256
+
+
+class TenBehindLoading(Quoting):
+    """A desk of another length refused after the refusals of loading."""
+    def loaded(self, desk, text):
+        load(text, rules=self.loading)
+        return super().loaded(desk, text)
+
+
+class TenBehindOne(Quoting):
+    """A desk of another length refused after 1."""
+    def loaded(self, desk, text):
+        if len(text) > MOST_BYTES:
+            refuse(1, 0)
+        return super().loaded(desk, text)
+
+
+class LongerDeskLoaded(Quoting):
+    """A longer desk loaded into, its last bytes left as they were."""
+    def load(self, desk, text):
+        code, left = super().load(desk[:DESK], text)
+        return code, left._replace(desk=left.desk + desk[DESK:])
+
+
+class ShorterDeskLoaded(Quoting):
+    """A shorter desk loaded into, as far as it goes."""
+    def load(self, desk, text):
+        if len(desk) >= DESK:
+            return super().load(desk, text)
+        code, left = super().load(bytes(DESK), text)
+        return code, left._replace(desk=desk if code else left.desk[:len(desk)])
+
+
+class ClearedByRefusal(Quoting):
+    """A desk emptied by a refused load."""
+    def desk_refused(self, desk):
+        return bytes(len(desk))
+
+
+class ClearedBehindRefusal(Quoting):
+    """A desk of which a refused load leaves the first eight bytes only."""
+    def desk_refused(self, desk):
+        return desk[:HEAD] + bytes(max(0, len(desk) - HEAD))
+
+
+class OnlyUsedWritten(Quoting):
+    """An accepted load that leaves the bytes behind the last operation as they were."""
+    def load(self, desk, text):
+        code, left = super().load(desk, text)
+        if code:
+            return code, left
+        used = HEAD + ENTRY * left.desk[1]
+        return code, left._replace(desk=left.desk[:used] + desk[used:])
+
+
+class HeadZerosUnwritten(Quoting):
+    """An accepted load that leaves bytes 3 to 7 as they were."""
+    def load(self, desk, text):
+        code, left = super().load(desk, text)
+        return code, left if code else left._replace(desk=left.desk[:3] + desk[3:HEAD] + left.desk[HEAD:])
+
+
+class YearUnwritten(Quoting):
+    """The year of a sheet not written."""
+    def encoded(self, sheet):
+        return super().encoded(sheet._replace(year=PRESENT))
+
+
+class YearInFull(Quoting):
+    """The year written as its number, in two bytes."""
+    def encoded(self, sheet):
+        desk = super().encoded(sheet)
+        return desk[:2] + struct.pack("<H", sheet.year) + desk[4:]
+
+
+class ConstantHighestFirst(Quoting):
+    """A constant written with the highest byte first."""
+    def entry(self, name, numbers):
+        entry = super().entry(name, numbers)
+        return entry[:4] + entry[:3:-1]
+
+
+class ConstantUnshifted(Quoting):
+    """A constant written with its sign, and nothing added to it."""
+    def entry(self, name, numbers):
+        return super().entry(name, numbers)[:4] + struct.pack("<i", numbers[1] if name in ("addc", "mulc") else 0)
+
+
+class LinesFromZero(Quoting):
+    """Line numbers written from 0."""
+    def entry(self, name, numbers):
+        entry = super().entry(name, numbers)
+        return entry[:1] + bytes([entry[1] - 1]) + entry[2:]
+
+
+class KindsFromZero(Quoting):
+    """Kinds written from 0."""
+    def entry(self, name, numbers):
+        entry = super().entry(name, numbers)
+        return bytes([entry[0] - 1]) + entry[1:]
+
+
+class LinesCounted(Quoting):
+    """All codelist lines counted, factors too, in the place of the operations."""
+    def encoded(self, sheet):
+        desk = super().encoded(sheet)
+        return desk[:1] + bytes([desk[0] + desk[1]]) + desk[2:]
+
+
+CALLED_LOAD_ERRORS = [
+    PlaceTimesTen, PlaceForgotten, PlaceFirst, CodeOfOneByte, TenBehindLoading, TenBehindOne, LongerDeskLoaded, ShorterDeskLoaded, ClearedByRefusal,
+    ClearedBehindRefusal, OnlyUsedWritten, HeadZerosUnwritten, YearUnwritten, YearInFull, ConstantHighestFirst, ConstantUnshifted, LinesFromZero,
+    KindsFromZero, LinesCounted,
+]
+
+
+class NotCleared(Quoting):
+    """A result that keeps its bytes after a refusal."""
+    def result_refused(self, result):
+        return result
+
+
+class AlwaysCleared(Quoting):
+    """A result of another length cleared, too."""
+    def result_refused(self, result):
+        return bytes(len(result))
+
+
+class ClearedIfLong(Quoting):
+    """The first 192 bytes of a longer result cleared, too."""
+    def result_refused(self, result):
+        return bytes(RESULT) + result[RESULT:] if len(result) >= RESULT else result
+
+
+class ClearedBehindTen(Quoting):
+    """A result that keeps its bytes after 10."""
+    def rate(self, desk, ranges, result):
+        code, left = super().rate(desk, ranges, result)
+        return code, left._replace(result=result) if code == 10 else left
+
+
+class ClearedBehindEight(Quoting):
+    """A result that keeps its bytes after 8."""
+    def rate(self, desk, ranges, result):
+        code, left = super().rate(desk, ranges, result)
+        return code, left._replace(result=result) if code == 8 else left
+
+
+class LongerResultTaken(Quoting):
+    """A longer result taken, its last bytes left as they were."""
+    def rate(self, desk, ranges, result):
+        code, left = super().rate(desk, ranges, result[:RESULT])
+        return code, left._replace(result=left.result + result[RESULT:])
+
+
+class LongerRangesTaken(Quoting):
+    """Longer ranges taken."""
+    def rate(self, desk, ranges, result):
+        code, left = super().rate(desk, ranges[:RANGES], result)
+        return code, left._replace(ranges=ranges)
+
+
+class RangesOfFactorsTaken(Quoting):
+    """Shorter ranges taken where they have the doubles of all factors."""
+    def rate(self, desk, ranges, result):
+        code, left = super().rate(desk, ranges.ljust(RANGES, b"\0") if len(ranges) >= 16 * (desk[:1] or b"\x08")[0] else ranges, result)
+        return code, left._replace(ranges=ranges)
+
+
+class LongerDeskRated(Quoting):
+    """A longer desk taken."""
+    def decoded(self, desk):
+        return super().decoded(desk[:DESK])
+
+
+class ShorterDeskRated(Quoting):
+    """A shorter desk taken as if zeros stood behind it."""
+    def decoded(self, desk):
+        return super().decoded(desk.ljust(DESK, b"\0"))
+
+
+class EightBeforeTen(Quoting):
+    """The lengths of the records tested before the desk."""
+    def rated(self, desk, ranges, result):
+        self.check_lengths(ranges, result)
+        return super().rated(desk, ranges, result)
+
+
+class EighteenBeforeTen(Quoting):
+    """18 before 10, by the desk's first byte."""
+    def rated(self, desk, ranges, result):
+        if len(desk) == DESK and len(ranges) == RANGES and 1 <= desk[0] <= MOST_FACTORS:
+            self.ends(desk[0], ranges)
+        return super().rated(desk, ranges, result)
+
+
+class EighteenBeforeEight(Quoting):
+    """18 before 8 for a result of another length."""
+    def check_lengths(self, ranges, result):
+        super().check_lengths(ranges, bytes(RESULT))
+        self.result = result
+
+    def ends(self, factors, ranges):
+        ends = super().ends(factors, ranges)
+        super().check_lengths(ranges, self.result)
+        return ends
+
+
+class EighteenBehindNine(Quoting):
+    """18 after 9 of the ranges that have whole numbers."""
+    def ends(self, factors, ranges):
+        numbers = [self.whole(ranges[8 * k:8 * k + 8]) for k in range(2 * factors)]
+        for a, (low, high) in enumerate(zip(numbers[::2], numbers[1::2]), 1):
+            if low is not None and high is not None and (low > high or low < -LIMIT or high > LIMIT):
+                refuse(9, a)
+        return super().ends(factors, ranges)
+
+
+class EighteenInTurn(Quoting):
+    """18 and 9 factor by factor."""
+    def ends(self, factors, ranges):
+        for a in range(1, factors + 1):
+            low, high = super().ends(a, ranges)[-2:]
+            if low > high or low < -LIMIT or high > LIMIT:
+                refuse(9, a)
+        return super().ends(factors, ranges)
+
+
+class EighteenHighestFactor(Quoting):
+    """18 with the highest factor."""
+    def ends(self, factors, ranges):
+        bad = [k for k in range(2 * factors) if self.whole(ranges[8 * k:8 * k + 8]) is None]
+        if bad:
+            refuse(18, bad[-1] // 2 + 1)
+        return super().ends(factors, ranges)
+
+
+class EighteenFromZero(Quoting):
+    """18 with the factor counted from 0."""
+    def code(self, refusal):
+        return super().code(refusal._replace(place=refusal.place - 1) if refusal.number == 18 else refusal)
+
+
+class EighteenAtDouble(Quoting):
+    """18 with the number of the double."""
+    def ends(self, factors, ranges):
+        bad = [k for k in range(2 * factors) if self.whole(ranges[8 * k:8 * k + 8]) is None]
+        if bad:
+            refuse(18, bad[0] + 1)
+        return super().ends(factors, ranges)
+
+
+class EighteenAtZero(Quoting):
+    """18 with the place 0."""
+    def code(self, refusal):
+        return super().code(refusal._replace(place=0) if refusal.number == 18 else refusal)
+
+
+class LowEndsTested(Quoting):
+    """Only low ends tested for whole numbers; a high one is rounded."""
+    def ends(self, factors, ranges):
+        numbers = []
+        for k in range(2 * factors):
+            (x,) = struct.unpack("<d", ranges[8 * k:8 * k + 8])
+            number = self.whole(ranges[8 * k:8 * k + 8])
+            if number is None and (k % 2 == 0 or not isfinite(x)):
+                refuse(18, k // 2 + 1)
+            numbers.append(round(x))
+        return numbers
+
+
+class PastLastTested(Quoting):
+    """All sixteen doubles tested for whole numbers."""
+    def ends(self, factors, ranges):
+        return super().ends(MOST_FACTORS, ranges)[:2 * factors]
+
+
+class OneMoreTested(Quoting):
+    """The doubles of one factor more tested."""
+    def ends(self, factors, ranges):
+        return super().ends(min(MOST_FACTORS, factors + 1), ranges)[:2 * factors]
+
+
+class MinusZeroRefused(Quoting):
+    """Minus zero refused with 18."""
+    def whole(self, eight):
+        return None if eight == struct.pack("<d", -0.0) else super().whole(eight)
+
+
+class FractionsDropped(Quoting):
+    """Fractions dropped."""
+    def whole(self, eight):
+        (x,) = struct.unpack("<d", eight)
+        return int(x) if isfinite(x) else None
+
+
+class FractionsRounded(Quoting):
+    """Fractions rounded."""
+    def whole(self, eight):
+        (x,) = struct.unpack("<d", eight)
+        return round(x) if isfinite(x) else None
+
+
+class NearlyWholeTaken(Quoting):
+    """A number nearer than a millionth to a whole one taken."""
+    def whole(self, eight):
+        (x,) = struct.unpack("<d", eight)
+        return round(x) if isfinite(x) and abs(x - round(x)) < 1e-6 else None
+
+
+class SubnormalsTaken(Quoting):
+    """A subnormal number taken for 0."""
+    def whole(self, eight):
+        return 0 if not struct.unpack("<Q", eight)[0] >> 52 & 0x7FF else super().whole(eight)
+
+
+class InfinityBeyond(Quoting):
+    """An infinity refused with 9, as beyond the limit."""
+    def whole(self, eight):
+        (x,) = struct.unpack("<d", eight)
+        return 2 * LIMIT * (1 if x > 0 else -1) if abs(x) == float("inf") else super().whole(eight)
+
+
+class NaNTaken(Quoting):
+    """A NaN taken for 0."""
+    def whole(self, eight):
+        (x,) = struct.unpack("<d", eight)
+        return 0 if x != x else super().whole(eight)
+
+
+class SignallingTaken(Quoting):
+    """A signalling NaN taken for 0."""
+    def whole(self, eight):
+        (x,) = struct.unpack("<d", eight)
+        return 0 if x != x and not struct.unpack("<Q", eight)[0] >> 51 & 1 else super().whole(eight)
+
+
+class HugeRefused(Quoting):
+    """A whole number beyond 64 bits refused with 18."""
+    def whole(self, eight):
+        number = super().whole(eight)
+        return None if number is not None and not -2 ** 63 <= number < 2 ** 63 else number
+
+
+class BeyondExactRefused(Quoting):
+    """A whole number beyond 2^53 refused with 18."""
+    def whole(self, eight):
+        number = super().whole(eight)
+        return None if number is not None and abs(number) > 2 ** 53 else number
+
+
+class BeyondLimitRefused(Quoting):
+    """A whole number beyond the limit refused with 18."""
+    def whole(self, eight):
+        number = super().whole(eight)
+        return None if number is not None and abs(number) > LIMIT else number
+
+
+class WholeOf32Bits(Quoting):
+    """A whole number of which 32 bits are left."""
+    def whole(self, eight):
+        number = super().whole(eight)
+        return number if number is None else (number + 2 ** 31) % 2 ** 32 - 2 ** 31
+
+
+class WholeOf64Bits(Quoting):
+    """A whole number of which 64 bits are left."""
+    def whole(self, eight):
+        number = super().whole(eight)
+        return number if number is None else (number + 2 ** 63) % 2 ** 64 - 2 ** 63
+
+
+class HighestFirst(Quoting):
+    """Doubles read with the highest byte first."""
+    def whole(self, eight):
+        return super().whole(eight[::-1])
+
+
+class ByteBehindIgnored(Quoting):
+    """Bytes behind the last operation not looked at."""
+    def decoded(self, desk):
+        used = HEAD + ENTRY * desk[1] if len(desk) == DESK else 0
+        return super().decoded(desk[:used].ljust(DESK, b"\0") if 0 < used < DESK else desk)
+
+
+class LastByteIgnored(Quoting):
+    """The last byte of a desk not looked at where no operation stands there."""
+    def decoded(self, desk):
+        return super().decoded(desk[:-1] + b"\0" if len(desk) == DESK and desk[1] < 63 else desk)
+
+
+class HeadZerosIgnored(Quoting):
+    """Bytes 3 to 7 not looked at."""
+    def decoded(self, desk):
+        return super().decoded(desk[:3] + bytes(5) + desk[HEAD:] if len(desk) == DESK else desk)
+
+
+class YearIgnored(Quoting):
+    """Every desk rated by 2016."""
+    def decoded(self, desk):
+        sheet = super().decoded(desk)
+        return sheet and sheet._replace(year=PRESENT)
+
+
+class AnyYear(Quoting):
+    """Every year byte but 0 taken for 2014."""
+    def decoded(self, desk):
+        return super().decoded(desk[:2] + bytes([min(1, desk[2])]) + desk[3:] if len(desk) == DESK else desk)
+
+
+class EntryRewritten(Quoting):
+    def operation(self, entry, earlier):
+        kind, i, j, zero, shifted = struct.unpack("<BBBBI", entry)
+        return super().operation(struct.pack("<BBBBI", *self.rewritten(kind, i, j, zero, shifted)), earlier)
+
+
+class FourthByteIgnored(EntryRewritten):
+    """The fourth byte of an operation not looked at."""
+    def rewritten(self, kind, i, j, zero, shifted):
+        return kind, i, j, 0, shifted
+
+
+class SecondLineIgnored(EntryRewritten):
+    """The third byte of an operation with a constant, or of an inverse, not looked at."""
+    def rewritten(self, kind, i, j, zero, shifted):
+        return kind, i, 0 if kind in (3, 4, 6) else j, zero, shifted
+
+
+class ConstantIgnored(EntryRewritten):
+    """The last four bytes of an operation without a constant not looked at."""
+    def rewritten(self, kind, i, j, zero, shifted):
+        return kind, i, j, zero, shifted if kind in (3, 4) else 0
+
+
+class TimesZeroOnDesk(EntryRewritten):
+    """A multiplication by 0 on the desk rated, as one by a unit."""
+    def rewritten(self, kind, i, j, zero, shifted):
+        return kind, i, j, zero, shifted + 1 if kind == 4 and shifted == LIMIT else shifted
+
+
+class ConstantCut(EntryRewritten):
+    """A constant beyond the limit on the desk taken for the limit."""
+    def rewritten(self, kind, i, j, zero, shifted):
+        return kind, i, j, zero, min(shifted, 2 * LIMIT) if kind in (3, 4) else shifted
+
+
+class ExponentCut(EntryRewritten):
+    """An exponent above 8 on the desk taken for 8."""
+    def rewritten(self, kind, i, j, zero, shifted):
+        return kind, i, min(j, 8) if kind == 5 else j, zero, shifted
+
+
+class ExponentRaised(EntryRewritten):
+    """An exponent of 1 on the desk taken for 2."""
+    def rewritten(self, kind, i, j, zero, shifted):
+        return kind, i, 2 if kind == 5 and j == 1 else j, zero, shifted
+
+
+class ReferenceRaised(EntryRewritten):
+    """A line 0 on the desk taken for 1."""
+    def rewritten(self, kind, i, j, zero, shifted):
+        return kind, i or 1, j or 1 if kind in (1, 2) else j, zero, shifted
+
+
+class OwnLineTaken(Quoting):
+    """An operation on the desk that names its own line taken for one of the line before."""
+    def operation(self, entry, earlier):
+        own = earlier + 1
+        kind, i, j = entry[:3]
+        return super().operation(bytes((kind, earlier if i == own else i, earlier if kind in (1, 2) and j == own else j)) + entry[3:], earlier)
+
+
+class ZerosRated(Quoting):
+    """A desk of zeros rated by a sheet of one operation."""
+    def decoded(self, desk):
+        return super().decoded(desk if any(desk) else bytes((1, 1, 0, 0, 0, 0, 0, 0, 6, 1)).ljust(DESK, b"\0"))
+
+
+class BendBehindFull(Quoting):
+    """The full bend before the bend."""
+    def record(self, result):
+        return super().record(result._replace(bend=result.full, full=result.bend))
+
+
+class BentBeforeDepends(Quoting):
+    """The bent set before the set of factors that count."""
+    def record(self, result):
+        return super().record(result._replace(depends=result.bent, bent=result.depends))
+
+
+class HighBeforeLow(Quoting):
+    """High ends before low ones."""
+    def record(self, result):
+        turned = [Range(r.high, r.low) for r in (result.value, result.bend, result.full)]
+        value, bend, full = turned
+        slopes = tuple(Range(r.high, r.low) for r in result.slopes)
+        return super().record(result._replace(value=value, slopes=slopes, bend=bend, full=full))
+
+
+class SlopesOfFactors(Quoting):
+    """The slopes of n factors and not of eight, the sets right behind them."""
+    def record(self, result):
+        record = super().record(result)
+        used = 16 * (1 + len(result.slopes))
+        return (record[:used] + record[144:]).ljust(RESULT, b"\0")
+
+
+class MaskFromTwo(Quoting):
+    """A set as the sum of 2^i over its factors i."""
+    def mask(self, members):
+        return 2 * super().mask(members)
+
+
+class SetCounted(Quoting):
+    """A set as the number of its factors."""
+    def mask(self, members):
+        return len(members)
+
+
+class MinusZeroWritten(Quoting):
+    """0 written as minus zero in a high end."""
+    def record(self, result):
+        numbers = struct.unpack("<24d", super().record(result))
+        return struct.pack("<24d", *(-0.0 if number == 0 and k % 2 else number for k, number in enumerate(numbers)))
+
+
+class WrittenHighestFirst(Quoting):
+    """Doubles written with the highest byte first."""
+    def record(self, result):
+        return struct.pack(">24d", *struct.unpack("<24d", super().record(result)))
+
+
+class SinglesWritten(Quoting):
+    """Numbers of a result rounded to 24 bits."""
+    def record(self, result):
+        return struct.pack("<24d", *struct.unpack("<24f", struct.pack("<24f", *struct.unpack("<24d", super().record(result)))))
+
+
+class PlaceAsTextLine(Quoting):
+    """11 and 12 with the line of the text."""
+    def rated(self, desk, ranges, result):
+        try:
+            return super().rated(desk, ranges, result)
+        except Refused as refused:
+            number, place = refused.args[0]
+            refuse(number, place - desk[0] + 1 if number in (11, 12) else place)
+
+
+CALLED_RATE_ERRORS = [
+    PlaceTimesTen, PlaceForgotten, PlaceFirst, CodeOfOneByte, NotCleared, AlwaysCleared, ClearedIfLong, ClearedBehindTen, ClearedBehindEight,
+    LongerResultTaken, LongerRangesTaken, RangesOfFactorsTaken, LongerDeskRated, ShorterDeskRated,
+    EightBeforeTen, EighteenBeforeTen, EighteenBeforeEight, EighteenBehindNine, EighteenInTurn, EighteenHighestFactor, EighteenFromZero, EighteenAtDouble,
+    EighteenAtZero, LowEndsTested, PastLastTested, OneMoreTested, MinusZeroRefused, FractionsDropped, FractionsRounded, NearlyWholeTaken,
+    SubnormalsTaken, InfinityBeyond, NaNTaken, SignallingTaken, HugeRefused, BeyondExactRefused, BeyondLimitRefused, WholeOf32Bits, WholeOf64Bits,
+    HighestFirst, ByteBehindIgnored, LastByteIgnored, HeadZerosIgnored, YearIgnored, AnyYear, FourthByteIgnored, SecondLineIgnored, ConstantIgnored,
+    TimesZeroOnDesk, ConstantCut, ExponentCut, ExponentRaised, ReferenceRaised, OwnLineTaken, ZerosRated, BendBehindFull, BentBeforeDepends,
+    HighBeforeLow, SlopesOfFactors, MaskFromTwo, SetCounted, MinusZeroWritten, WrittenHighestFirst, SinglesWritten, PlaceAsTextLine,
 ]
