@@ -7,9 +7,10 @@ With a line `tidied:` in the place of `prints:` the program is `tidy`, with `rep
 `sisters`, else it is `rate`. The first example of README.md and of SHEET.md is indented, and has a remark behind the fields of each line; in the README
 blanks stand for the tabs. In the same way an indented paragraph of any of the three may have a command as its first line,
 `$ target/bin/tidy < examples/FILE` (or `rate`, `fleet`, `cut`, `sisters`) or `$ cat examples/FILE`, and what it prints below; the file may be in a
-directory of examples/.
+directory of examples/. The commands of README.md, "Use from C and Python", are left to tests/quoting.py, which has the library.
 
-Fails, too, where an operation, a refusal, a program or the year 2014 has no example.
+Fails, too, where an operation, a refusal, a program or the year 2014 has no example, where a refusal of SHEET.md's table has no paragraph, and where the header
+for C, docs/STATE.md, SHEET.md and examples/quote.py don't have the same lengths and refusals.
 """
 import argparse
 import re
@@ -21,8 +22,10 @@ from typing import NamedTuple
 ROOT = Path(__file__).resolve().parent.parent
 OPERATIONS = ("add", "mul", "addc", "mulc", "pow", "inv")
 PROGRAMS = {"prints:": "rate", "tidied:": "tidy", "reported:": "fleet", "cut:": "cut", "sisters:": "sisters"}
-# no program prints 10, since each loads a sheet first, nor 13, since `tidy` has room for every sheet
+# no program prints 10, since each loads a sheet first, nor 13, since `tidy` has room for every sheet, nor 18, since numerals are whole numbers
 REFUSALS = {"rate": [*range(1, 10), 11, 12, 15, 17], "fleet": [14], "cut": [16], "sisters": [8, 9]}
+CALLED = "Use from C and Python"  # the section whose commands tests/quoting.py runs
+CALLS = {"motmotdivan_load": [10, *range(1, 8), 15, 17], "motmotdivan_rate": [10, 8, 18, 9, 11, 12]}
 
 
 def written(lines):
@@ -75,9 +78,16 @@ def laid_out(document):
     return Example(document.name, "rate", paragraph("factors"), paragraph("value"))
 
 
+def parted_at(document, title):
+    """A document without the section of that title, and the section, or nothing where there is none."""
+    before, found, behind = document.read_text().partition(f"\n## {title}\n")
+    section, next_one, rest = behind.partition("\n## ")
+    return before + next_one + rest, found and section
+
+
 def commands(document):
     """The examples of a document that begin with a command."""
-    for paragraph in document.read_text().split("\n\n"):
+    for paragraph in parted_at(document, CALLED)[0].split("\n\n"):
         command, *output = paragraph.strip("\n").split("\n")
         if not command.startswith("    $ "):
             continue
@@ -98,6 +108,36 @@ def unshown(examples):
     missing += [f"`{program}`" for program in PROGRAMS.values() if program not in {example.program for example in accepted}]
     named = [example for example in accepted if example.program == "rate" and re.match(rb"factors\t[1-8]\t2014\n", example.given)]
     return missing if named else missing + ["the year 2014"]
+
+
+def disagreed():
+    """What the documents of the C functions say differently."""
+    header, state, sheet = ((ROOT / path).read_text() for path in ("include/motmotdivan.h", "docs/STATE.md", "docs/SHEET.md"))
+    lengths = re.findall(r"^#define MOTMOTDIVAN_([A-Z]+)_LENGTH (\d+)", header, re.MULTILINE)
+    titles = re.findall(r"^## The ([a-z]+): (\d+) bytes", state, re.MULTILINE)
+    if [length for _, length in lengths] != [length for _, length in titles] or [name for name, _ in lengths] != ["STATE", "RANGES", "RESULT"]:
+        yield "the lengths of include/motmotdivan.h and docs/STATE.md"
+    names, numbers = re.search(r"^(\w+(?:, \w+)*) = (\d+(?:, \d+)*)$", (ROOT / "examples" / "quote.py").read_text(), re.MULTILINE).groups()
+    if [*zip(names.split(", "), numbers.split(", "))] != [(f"{name}_LENGTH", length) for name, length in lengths]:
+        yield "the lengths of include/motmotdivan.h and examples/quote.py"
+    listed = [int(number) for number in re.findall(r"^ +(\d+)  [a-z]", header, re.MULTILINE)]
+    if listed != sorted(set().union(*CALLS.values())):
+        yield "the refusals of include/motmotdivan.h and those of the two functions"
+    in_order = {name: in_words(words) for name, words in re.findall(r"^- `(motmotdivan_\w+)`: (.*(?:\n  .*)*)", state, re.MULTILINE)}
+    if in_order != CALLS:
+        yield f"the order of refusals in docs/STATE.md, which has {in_order}"
+    rows = [int(number) for number in re.findall(r"^\| (\d+) \|", sheet, re.MULTILINE)]
+    paragraphs = [int(number) for number in re.findall(r"^### (\d+): ", sheet, re.MULTILINE)]
+    if rows != paragraphs or rows != [*range(1, len(rows) + 1)] or not {*rows} >= {*listed}:
+        yield "the refusals of docs/SHEET.md: its table, its paragraphs, and include/motmotdivan.h"
+
+
+def in_words(words):
+    """The numbers of refusals in a sentence, single ones and `1 to 7`. Those of three digits are lengths."""
+    found = []
+    for first, last in re.findall(r"\b(\d{1,2})(?: to (\d))?\b", words):
+        found += range(int(first), int(last or first) + 1)
+    return found
 
 
 def main():
@@ -127,8 +167,11 @@ def main():
         missing.append("examples/dinghy in README.md as it stands")
     for what in missing:
         print(f"no example: {what}")
-    print(f"{passed} passed, {failed + len(missing)} failed")
-    sys.exit(bool(failed or missing))
+    different = [*disagreed()]
+    for what in different:
+        print(f"not the same: {what}")
+    print(f"{passed} passed, {failed + len(missing) + len(different)} failed")
+    sys.exit(bool(failed or missing or different))
 
 
 if __name__ == "__main__":

@@ -26,7 +26,7 @@ from pathlib import Path
 
 import calls
 from calling import CallComparison, Library
-from documents import unremarked
+from documents import CALLED, parted_at, unremarked
 from figures import FIGURES
 from reference.outcome import Refused
 from reference.quoting import DESK, RESULT, Load, Quoting, Rate
@@ -37,7 +37,6 @@ from shares import all_compared, missed_by
 ROOT = Path(__file__).resolve().parent.parent
 README, STATE, EXAMPLES = ROOT / "README.md", ROOT / "docs" / "STATE.md", ROOT / "examples"
 ARCHIVE = Path("target/staticlib/libmotmotdivan.a")
-SECTION = "Use from C and Python"
 STRICT = ["-Wall", "-Wextra", "-Werror", "-pedantic"]
 SANITIZERS = "-fsanitize=address,undefined"
 SWEEP_ROUNDS = 2  # for each sheet whose desk has each of its bytes changed
@@ -83,9 +82,8 @@ class Runs:
 
 def section():
     """The commands of the section, each with the bytes that it prints, or None where the section does not show them."""
-    text = README.read_text().split(f"\n## {SECTION}\n")[1].split("\n## ")[0]
     found = []
-    for line in text.split("\n"):
+    for line in parted_at(README, CALLED)[1].split("\n"):
         if line.startswith("    $ "):
             found.append((line.removeprefix("    $ "), []))
         elif line.startswith("    ") and found:
@@ -101,7 +99,7 @@ def examples_in(folder, archive, runs):
     shutil.copy(archive, folder / ARCHIVE)
     commands = section()
     if not commands or commands[0] != ("rt staticlib motmotdivan", None):
-        runs.judge(f"{README.name}, '{SECTION}'", "its first command is not `rt staticlib motmotdivan`")
+        runs.judge(f"{README.name}, '{CALLED}'", "its first command is not `rt staticlib motmotdivan`")
     for command, output in commands[1:]:
         written = [EXAMPLES / f"quote-{of}.out" for of, word in (("c", "target/quote "), ("py", "python3 examples/quote.py ")) if command.startswith(word)]
         expected = written[0].read_bytes() if written else output or b""
@@ -110,7 +108,7 @@ def examples_in(folder, archive, runs):
             runs.judge(f"{README.name} beside {written[0].name}", "they differ")
     for wanted in ("cc -std=c99 " + " ".join(STRICT), "target/quote ", "cc -shared ", "python3 examples/quote.py "):
         if not any(command.startswith(wanted) for command, _ in commands):
-            runs.judge(f"{README.name}, '{SECTION}'", f"no command `{wanted.strip()}`")
+            runs.judge(f"{README.name}, '{CALLED}'", f"no command `{wanted.strip()}`")
 
 
 def desk_of_document():
