@@ -1,0 +1,9 @@
+pub mod Parts
+pub mod Wholes
+pub mod Patterns
+pub mod Cells
+pub mod Clamped
+pub mod Reading
+pub mod Results
+pub mod Places
+pub mod Answers

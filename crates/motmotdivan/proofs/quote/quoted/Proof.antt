@@ -1,0 +1,161 @@
+-- `quoted` meets its contract: 10, 8 and 18 in their order, and rating of the numbers that were converted.
+use Prim.Native.Nat.{ℕ, _+_, _*_, _/_, _≤_, _<_}
+use mathlib.Core.Bool.{cond, _&&_, true≢false}
+use mathlib.Core.Option.{some}
+use mathlib.Core.Path.{_≡_, sym, ap, subst, _∙_}
+use native.Mathlib.Omega.{arith}
+use lib.Dec.{leb}
+use lib.ListN.{length, take}
+use lib.Seq.{length-take-le}
+use borrow.Author.Needs.{needs}
+use borrow.Author.Tests.{not-true, not-false, leb-true, le-leb, ltb-true, ltb-false, ne-eqb, eq-eqb}
+use Rattle.codelist.specs.declared.Codelist.{Codelist}
+use Rattle.codelist.proofs.Laws.{both-true, both-made}
+use Rattle.rules.specs.declared.Rating.{Rating}
+use Rattle.encoding.specs.Decode.{decoded, holdsCodelist}
+use Rattle.motmotdivan.specs.Doubles.{noWhole}
+use Rattle.motmotdivan.specs.Record.{numberAt, fraction, rangesOf}
+use Rattle.motmotdivan.specs.Calls.{answerOf}
+use Rattle.motmotdivan.specs.Views.{clamped, RatePlaced, refusedQuote, quoteOf}
+use Rattle.motmotdivan.proofs.Answers.{held, ten-given, eight-given, eighteen-given, rating-given}
+use Rattle.motmotdivan.proofs.Places.{rate-placed}
+use Rattle.motmotdivan.proofs.Reading.{Whole, all-read, first-fraction}
+use Rattle.motmotdivan.proofs.quote.quoted.Statement.{statement}
+use Rattle.motmotdivan.proofs.quote.quoted.Tie as tie
+
+returns : tie.Need-returns
+returns c =
+    let a = c .before .before .before .before .args in
+    c .refuse .ensures ∙ ten-given (a .state .now) (a .ranges .now) (a .room) (λ k e. c .before .if1 .taken (held (a .state .now) k e .long))
+
+returns-2 : tie.Need-returns-2
+returns-2 c =
+    let i = c .before in
+    let w = i .before in
+    let a = w .before .before .before .before .before .args in
+    c .refuse2 .ensures
+    ∙ ten-given (a .state .now) (a .ranges .now) (a .room) (λ k e.
+    let h = held (a .state .now) k e in
+    let n = w .wide .result in
+    let f : n ≡ k .factors = w .wide .ensures .0 ∙ h .factors in
+    true≢false (sym (both-made (leb 1 n) (leb n 8) (le-leb 1 n (omega (arith, h .few))) (le-leb n 8 (omega (arith, h .few))))
+    ∙ not-true (leb 1 n && leb n 8) (i .if2 .taken)))
+
+returns-3 : tie.Need-returns-3
+returns-3 c =
+    let i = c .before in
+    let a = i .before .before .before .before .before .before .before .args in
+    c .refuse-held .ensures
+    ∙ eight-given (a .state .now) (a .ranges .now) (a .room) (rw (ne-eqb (length (a .ranges .now)) 128 (i .if3 .taken)))
+
+returns-4 : tie.Need-returns-4
+returns-4 c =
+    let i = c .before in
+    let a = i .before .before .before .before .before .before .before .before .args in
+    c .refuse-held2 .ensures
+    ∙ eight-given (a .state .now) (a .ranges .now) (a .room) (rw (eq-eqb (length (a .ranges .now)) 128 (i .before .if3 .left), ne-eqb (a .room) 192 (i .if4 .taken)))
+
+-- the factors, by the first byte
+few : (c : tie.Else4) → c .before .before .before .wide .result ≤ 8
+few c =
+    let n = c .before .before .before .wide .result in
+    leb-true n 8 (both-true (leb 1 n) (leb n 8) (not-false (leb 1 n && leb n 8) (c .before .before .if2 .left)) .1)
+
+convert-requires : tie.Need-convert-requires
+convert-requires c κs = (omega (arith, few (c .before)), c .record-of .ensures .sure)
+
+-- the numbers as far as they are whole are those of the record's bytes
+whole : (c : tie.After-convert) →
+    let x = c .convert .result in
+    Whole (c .before .before .before .before .before .before .before .before .before .before .args .ranges .now) (x .values) (x .reached)
+whole c j h =
+    let r = c .before in
+    let x = c .convert .ensures in
+    ap clamped (sym (r .record-of .ensures .number j (omega (arith, few (r .before), x .inside)))) ∙ x .before j h
+
+-- the factors of the codelist, if there is one
+factors : (c : tie.After-wide) (k : Codelist) → decoded (c .before .before .before .before .before .args .state .now) ≡ some k → k .factors ≡ c .wide .result
+factors c k e = sym (c .wide .ensures .0 ∙ held _ k e .factors)
+
+stopped : (c : tie.Then5) → c .before .before .convert .result .reached < 2 * c .before .before .before .before .before .before .before .wide .result
+stopped c = ltb-true _ _ (sym (c .before .has-fraction .ensures) ∙ c .if5 .taken)
+
+fraction-code-requires : tie.Need-fraction-code-requires
+fraction-code-requires c κs = omega (arith, stopped c, few (c .before .before .before .before))
+
+returns-5 : tie.Need-returns-5
+returns-5 c =
+    let k = c .before in
+    let i = k .before in
+    let x = i .before .before in
+    let r = x .before in
+    let o = r .before in
+    let w = o .before .before .before in
+    let a = w .before .before .before .before .before .args in
+    let b = a .ranges .now in
+    let n = w .wide .result in
+    let m = x .convert .result .reached in
+    let none : numberAt b m ≡ noWhole =
+    sym (r .record-of .ensures .number m (omega (arith, stopped i, few o))) ∙ x .convert .ensures .stops (stopped i) in
+    let f : rangesOf b n ≡ fraction (m / 2 + 1) = first-fraction b (x .convert .result .values) m 0 n (whole x) none (omega arith) (omega (arith, stopped i)) in
+    c .refuse-held3 .ensures ∙ ap (λ (z : ℕ). refusedQuote (cond (holdsCodelist (a .state .now)) z 10)) (k .fraction-code .ensures)
+    ∙ eighteen-given (a .state .now) b (a .room) (o .before .if3 .left) (o .if4 .left) (m / 2 + 1) (λ y e. ap (rangesOf b) (factors w y e) ∙ f)
+
+-- all of them are whole
+long : (c : tie.After-values) → length (c .before .before .before .convert .result .values) ≡ 16
+long c = search needs
+
+array-share-prefix-values : tie.Need-array-share-prefix-values
+array-share-prefix-values c = omega (arith, long c, few (c .before .before .before .before .before))
+
+slice-aggregate-rate-at : tie.Need-slice-aggregate-rate-at
+slice-aggregate-rate-at c = sym (length-take-le _ _ (omega (arith, long (c .before), few (c .before .before .before .before .before .before))))
+
+answer-requires : tie.Need-answer-requires
+answer-requires c κs = subst RatePlaced (sym (ap (λ (r : Rating). r .outcome) (c .rate-at .ensures))) (rate-placed _ _)
+
+returns-6 : tie.Need-returns-6
+returns-6 c =
+    let g = c .before in
+    let v = g .before .before in
+    let x = v .before .before .before in
+    let r = x .before in
+    let o = r .before in
+    let w = o .before .before .before in
+    let a = w .before .before .before .before .before .args in
+    let b = a .ranges .now in
+    let n = w .wide .result in
+    let z = x .convert .result in
+    let all : 2 * n ≤ z .reached = ltb-false (z .reached) (2 * n) (sym (v .before .before .has-fraction .ensures) ∙ v .before .if5 .left) in
+    let p = all-read b (z .values) 0 n (λ j h. whole x j (omega (arith, all))) (omega (arith, long v, few o)) in
+    c .answer .ensures ∙ ap (λ (y : Rating). quoteOf (answerOf y)) (g .rate-at .ensures)
+    ∙ rating-given (a .state .now) b (a .room) (o .before .if3 .left) (o .if4 .left) (take (2 * n) (z .values))
+    (λ y e. (p .exact, (ap (rangesOf b) (factors w y e) ∙ p .read, p .near)))
+
+pub quoted-spec : {M : Type 1} → statement M
+quoted-spec =
+    tie.close
+    (tie.spec
+    (λ c κs. search needs)
+    returns
+    (λ c. search needs)
+    (λ c κs. search needs)
+    (λ c κs. search needs)
+    returns-2
+    (λ c κs. search needs)
+    returns-3
+    (λ c κs. search needs)
+    returns-4
+    (λ c. search needs)
+    (λ c κs. search needs)
+    convert-requires
+    (λ c κs. search needs)
+    (λ c. search needs)
+    fraction-code-requires
+    (λ c κs. search needs)
+    returns-5
+    array-share-prefix-values
+    slice-aggregate-rate-at
+    (λ c κs. search needs)
+    answer-requires
+    returns-6)

@@ -1,0 +1,116 @@
+// The record of ranges, sixteen doubles in 128 bytes, and the record of a result, twenty-four in 192.
+ghost use mathlib.Core.Path.{_≡_};
+ghost use mathlib.Core.List.{[], _∷_};
+ghost use Prim.Native.Nat.{_+_, _≤_};
+ghost use lib.Dec.{ltb};
+ghost use lib.ListN.{length};
+ghost use lib.Seq.{sets};
+ghost use Rattle.motmotdivan.specs.Record.{endsOf, doublesOf, resultRecord};
+ghost use Rattle.motmotdivan.specs.Views.{cellNumber, Sure, HoldsBytes, Converted};
+use super::doubles;
+use super::doubles::Whole;
+use range::Range;
+use rules::Limits;
+
+pub(crate) const RANGES_LENGTH: usize = 128;
+
+pub(crate) const RESULT_LENGTH: usize = 192;
+
+// "a struct holding an array of f64", of the ranges' ends. No f64 can be made of a NaN's pattern: which doubles are finite stands beside the cells.
+pub struct Record {
+    pub cells: [f64; 16],
+    pub finite: [bool; 16],
+}
+
+// The record of 128 bytes.
+pub(crate) fn record_of(s: &[u8]) -> Record
+    requires { ⌜ length (now s) ≡ 128 ⌝ }
+    ensures { λ r. ⌜ HoldsBytes (now (s .entry)) r ⌝ }
+{
+    let mut cells = [0.0f64; 16];
+    let mut finite = [false; 16];
+    let mut k: usize = 0;
+    while k < 16 {
+        let bits = doubles::bits_at(s, 8 * k);
+        if bits % 0x8000_0000_0000_0000 < 0x7ff0_0000_0000_0000 {
+            cells[k] = f64::from_bits(bits);
+            finite[k] = true;
+        }
+        k += 1;
+    }
+    Record {
+        cells: cells,
+        finite: finite,
+    }
+}
+
+// The numbers of the cells before the first that is no whole number, if there is one.
+pub struct Numbers {
+    pub values: [i64; 16],
+    pub reached: usize,
+}
+
+// The numbers of the first m cells, in one pass.
+pub(crate) fn convert(r: Record, m: usize) -> Numbers
+    requires { ⌜ m ≤ 16 ⌝ }
+    requires { ⌜ Sure r ⌝ }
+    ensures { λ x. ⌜ Converted (cellNumber r) m x ⌝ }
+{
+    let mut values = [0i64; 16];
+    let mut k: usize = 0;
+    while k < m {
+        match doubles::number_of(r.cells[k], r.finite[k]) {
+            Whole::Is(z) => {
+                values[k] = z;
+                k += 1;
+            }
+            Whole::Not => {
+                return Numbers {
+                    values: values,
+                    reached: k,
+                };
+            }
+        }
+    }
+    Numbers {
+        values: values,
+        reached: k,
+    }
+}
+
+// Whether one of the first m cells is no whole number: before the ranges are looked at, as 18 comes before 9.
+pub(crate) fn has_fraction(x: Numbers, m: usize) -> bool
+    ensures { λ b. ⌜ b ≡ ltb (x .reached) m ⌝ }
+{
+    x.reached < m
+}
+
+// The ends of a range, low before high, from a place on.
+fn put_range(s: &mut [u8], at: usize, r: Range)
+    requires { ⌜ at + 16 ≤ length (now s) ⌝ }
+    ensures { λ w. ⌜ now (s .exit) ≡ sets (now (s .entry)) at (doublesOf (endsOf (r ∷ []))) ⌝ }
+{
+    doubles::put_double(s, at, r.low);
+    doubles::put_double(s, at + 8, r.high);
+}
+
+// The record of a result, in its order: value, eight slopes, the two sets, bend, full.
+pub(crate) fn put_result(s: &mut [u8], l: Limits)
+    requires { ⌜ length (now s) ≡ 192 ⌝ }
+    ensures { λ w. ⌜ now (s .exit) ≡ resultRecord l ⌝ }
+{
+    let value = l.value;
+    let spectrum = l.spectrum;
+    let full = l.full;
+    put_range(s, 0, value);
+    let mut k: usize = 0;
+    while k < 8 {
+        let slope = l.gradient[k];
+        put_range(s, 16 + 16 * k, slope);
+        k += 1;
+    }
+    doubles::put_double(s, 144, l.support as i64);
+    doubles::put_double(s, 152, l.nonlinear as i64);
+    put_range(s, 160, spectrum);
+    put_range(s, 176, full);
+}
