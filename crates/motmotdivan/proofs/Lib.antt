@@ -7,3 +7,9 @@ pub mod Reading
 pub mod Results
 pub mod Places
 pub mod Answers
+pub mod Exact
+pub mod Small
+pub mod Lowest
+pub mod Cases
+pub mod Loading
+pub mod Quoting

@@ -148,7 +148,7 @@ module _ (l : Limits) (e : length (l .gradient) ≡ 8) (s : List ℕ) where
   spectrum-length : length (upToSpectrum l) ≡ 22
   spectrum-length = length-append (upToNonlinear l) (endsOf (l .spectrum ∷ [])) ∙ omega (arith, nonlinear-length, ends-length (l .spectrum ∷ []))
 
-  full-length : length (upToFull l) ≡ 24
+  pub full-length : length (upToFull l) ≡ 24
   full-length = length-append (upToSpectrum l) (endsOf (l .full ∷ [])) ∙ omega (arith, spectrum-length, ends-length (l .full ∷ []))
 
   pub front-support : Front (slopes l) s → Front (upToSupport l) (sets s 144 (doubleOf (pos (l .support))))
@@ -165,7 +165,7 @@ module _ (l : Limits) (e : length (l .gradient) ≡ 8) (s : List ℕ) where
   front-full f =
       front-more (upToSpectrum l) (endsOf (l .full ∷ [])) s 176 f (omega (arith, spectrum-length)) (omega (arith, ends-length (l .full ∷ [])))
 
-  all-numbers : upToFull l ≡ resultNumbers l
+  pub all-numbers : upToFull l ≡ resultNumbers l
   unfolding endsOf
   all-numbers =
       append-assoc (upToNonlinear l) (endsOf (l .spectrum ∷ [])) (endsOf (l .full ∷ []))

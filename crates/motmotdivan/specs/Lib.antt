@@ -3,5 +3,5 @@
 pub mod Doubles
 pub mod Record
 pub mod Calls
--- pub mod Quoting
+pub mod Quoting
 pub mod Views
