@@ -2,18 +2,18 @@
 use Prim.Native.Nat.{ℕ, suc, zero, min, _+_, _-_, _*_, _^_, _≤_}
 use mathlib.Core.Bool.{Bool, true, false, _||_, true≢false, false≢true}
 use mathlib.Core.Logic.{_⊎_, inl, inr}
-use mathlib.Core.Path.{_≡_, refl, sym, ap, _∙_}
+use mathlib.Core.Path.{_≡_, refl, sym, ap, subst, _∙_}
 use native.Mathlib.Nat.{le-div-iff-mul-le}
 use native.Mathlib.Omega.{arith}
 use lib.Dec.{T, eqb}
 use lib.IntN.{ℤ, pos, negsuc, negℤ}
 use lib.Signed.{ltZ}
-use lib.Ieee.{Float, nan, inf, fin, binary64, up, down, fits, le, lt, eq, toSigned, ofInt}
+use lib.Ieee.{Float, nan, inf, fin, binary64, up, down, fits, le, lt, eq, toSigned, ofInt, inFloat}
 use lib.Ieee.Back.{round-whole}
 use lib.Ieee.Exact.{HasValue}
 use lib.Ieee.Fits.{down-pos}
 use lib.Ieee.Scale.{finite}
-use borrow.Author.Tests.{eq-eqb, ltb-true, ltb-false}
+use borrow.Author.Tests.{eq-eqb, le-leb, lt-ltb, ltb-true, ltb-false}
 use Rattle.motmotdivan.specs.declared.doubles.Whole.the-variants.{Is, Not}
 use Rattle.motmotdivan.specs.Doubles.{signed, wholeOf}
 use Rattle.motmotdivan.specs.Views.{clamp, clamped}
@@ -125,3 +125,9 @@ small-equal (fin s m e) g a b =
     let h = small-test s (q m e) (rw clamp-is at a) (rw clamp-is at b) in
     let v = valued s (q m e) h in
     ap (λ (z : ℤ). eq (ofInt binary64 z) (fin s m e)) (clamp-is s m e ∙ within s (q m e) h) ∙ equal-whole s (v .sign) m e _ (v .value) (v .same)
+
+-- Up to 2 ^ 53 either way the machine's own conversion loses nothing
+pub in-float : (z : ℤ) → ltZ z (negsuc 9_007_199_254_740_991) ≡ false → ltZ (pos 9_007_199_254_740_992) z ≡ false → T (inFloat binary64 z)
+unfolding inFloat
+in-float (pos n) a b = subst T (sym (le-leb n (2 ^ 53) (ltb-false 9_007_199_254_740_992 n b))) tt
+in-float (negsuc n) a b = subst T (sym (lt-ltb n (2 ^ 53) (omega (arith, ltb-false 9_007_199_254_740_991 n a)))) tt

@@ -7,7 +7,7 @@ use lib.Dec.{T}
 use lib.IntN.{ℤ, pos, negsuc}
 use lib.Ieee.{nan}
 use lib.Ieee.Scale.{finite}
-use lib.ListN.{getD}
+use lib.ListN.{length, getD}
 use Rattle.codelist.specs.declared.Outcome as loading
 use Rattle.codelist.specs.Load as Load
 use Rattle.rules.specs.declared.Outcome as rating
@@ -15,7 +15,6 @@ use Rattle.rules.specs.Rate as Rate
 use Rattle.rules.specs.Rate.{noLimits}
 use Rattle.motmotdivan.specs.declared.doubles.Whole.{Whole}
 use Rattle.motmotdivan.specs.declared.doubles.Whole.the-variants.{Is, Not}
-use Rattle.motmotdivan.specs.declared.record.Numbers.{Numbers}
 use Rattle.motmotdivan.specs.declared.record.Record as declared
 use Rattle.motmotdivan.specs.declared.quote.Quote.{Quote}
 use Rattle.motmotdivan.specs.Doubles.{Number, whole, noWhole, wholeOf}
@@ -39,16 +38,17 @@ cellNumber r k = cond (getD (r .finite) k false) (wholeOf (getD (r .cells) k nan
 pub record Sure (r : declared.Record) : Type 0 where
   pub each : (k : ℕ) → getD (r .finite) k false ≡ true → T (finite (getD (r .cells) k nan))
 
--- The record of bytes
-pub record HoldsBytes (b : List ℕ) (r : declared.Record) : Type 0 where
-  pub number : (k : ℕ) → k < 16 → cellNumber r k ≡ numberAt b k
+-- The record of bytes, as far as the first m cells
+pub record HoldsBytes (b : List ℕ) (m : ℕ) (r : declared.Record) : Type 0 where
+  pub number : (k : ℕ) → k < m → cellNumber r k ≡ numberAt b k
   pub sure : Sure r
 
--- The first m numbers as far as they are whole, in 64 bits
-pub record Converted (f : ℕ → Number) (m : ℕ) (x : Numbers) : Type 0 where
-  pub inside : x .reached ≤ m
-  pub before : (k : ℕ) → k < x .reached → clamped (f k) ≡ Is (getD (x .values) k (pos 0))
-  pub stops : x .reached < m → f (x .reached) ≡ noWhole
+-- The first m numbers of a record as far as they are whole, in 64 bits: k of them, and what comes next is none
+pub record Converted (b : List ℕ) (m : ℕ) (values : List ℤ) (k : ℕ) : Type 0 where
+  pub long : length values ≡ 16
+  pub inside : k ≤ m
+  pub before : (j : ℕ) → j < k → clamped (numberAt b j) ≡ Is (getD values j (pos 0))
+  pub stops : k < m → numberAt b k ≡ noWhole
 
 -- A refusal's place is that of a text line or of a codelist line, a factor, or none
 abbrev pub LoadPlaced : loading.Outcome → Type 0

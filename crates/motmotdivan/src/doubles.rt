@@ -3,6 +3,7 @@ ghost use mathlib.Core.Path.{_≡_};
 ghost use mathlib.Core.Bool.{true, cond};
 ghost use Prim.Native.Nat.{_+_, _≤_};
 ghost use lib.Dec.{T};
+ghost use lib.Ieee.{binary64, ofInt};
 ghost use lib.Ieee.Scale.{finite};
 ghost use lib.ListN.{length, take, drop};
 ghost use lib.Seq.{sets};
@@ -31,8 +32,7 @@ fn whole_of(x: f64) -> Whole
             if n > 9007199254740992 {
                 return Whole::Is(n);
             }
-            let y = std::num::nearest_i64_to_f64(n);
-            if y == x {
+            if n as f64 == x {
                 return Whole::Is(n);
             }
             return Whole::Not;
@@ -86,11 +86,24 @@ fn put_bits(s: &mut [u8], at: usize, u: u64)
     s[at + 7] = (f / 256 % 256) as u8;
 }
 
-// A whole number as a double.
+// A whole number as a double. Up to 2 ^ 53 the machine's own conversion is exact; no number of a result is beyond.
+fn double_of(z: i64) -> f64
+    ensures { λ r. ⌜ r ≡ ofInt binary64 z ⌝ }
+{
+    if z < -9007199254740992 {
+        return std::num::nearest_i64_to_f64(z);
+    }
+    if z > 9007199254740992 {
+        return std::num::nearest_i64_to_f64(z);
+    }
+    z as f64
+}
+
+// The same in the eight bytes from a place on.
 pub(crate) fn put_double(s: &mut [u8], at: usize, z: i64)
     requires { ⌜ at + 8 ≤ length (now s) ⌝ }
     ensures { λ r. ⌜ now (s .exit) ≡ sets (now (s .entry)) at (doubleOf z) ⌝ }
 {
-    let x = std::num::nearest_i64_to_f64(z);
+    let x = double_of(z);
     put_bits(s, at, f64::to_bits(x));
 }

@@ -74,11 +74,10 @@ pub(crate) fn quoted(state: &[u8], ranges: &[u8], room: usize) -> Quote
         return refuse_held(state, codes::RECORD_LENGTH);
     }
     let m = 2 * n;
-    let x = record::convert(record::record_of(ranges), m);
-    if record::has_fraction(x, m) {
-        let reached = x.reached as u64;
-        return refuse_held(state, codes::fraction_code(reached / 2 + 1));
+    let mut values = [0i64; 16];
+    let whole = record::numbers_of(ranges, m, &mut values);
+    if whole < m {
+        return refuse_held(state, codes::fraction_code(whole as u64 / 2 + 1));
     }
-    let values = x.values;
     answer(bounds::rate_at(state, &values[..m]))
 }

@@ -2,11 +2,10 @@
 ghost use mathlib.Core.Path.{_≡_};
 ghost use mathlib.Core.List.{[], _∷_};
 ghost use Prim.Native.Nat.{_+_, _≤_};
-ghost use lib.Dec.{ltb};
 ghost use lib.ListN.{length};
 ghost use lib.Seq.{sets};
 ghost use Rattle.motmotdivan.specs.Record.{endsOf, doublesOf, resultRecord};
-ghost use Rattle.motmotdivan.specs.Views.{cellNumber, Sure, HoldsBytes, Converted};
+ghost use Rattle.motmotdivan.specs.Views.{HoldsBytes, Converted};
 use super::doubles;
 use super::doubles::Whole;
 use range::Range;
@@ -22,15 +21,16 @@ pub struct Record {
     pub finite: [bool; 16],
 }
 
-// The record of 128 bytes.
-pub(crate) fn record_of(s: &[u8]) -> Record
+// The record of 128 bytes, as far as the first m doubles: the others are ignored.
+fn record_of(s: &[u8], m: usize) -> Record
     requires { ⌜ length (now s) ≡ 128 ⌝ }
-    ensures { λ r. ⌜ HoldsBytes (now (s .entry)) r ⌝ }
+    requires { ⌜ m ≤ 16 ⌝ }
+    ensures { λ r. ⌜ HoldsBytes (now (s .entry)) m r ⌝ }
 {
     let mut cells = [0.0f64; 16];
     let mut finite = [false; 16];
     let mut k: usize = 0;
-    while k < 16 {
+    while k < m {
         let bits = doubles::bits_at(s, 8 * k);
         if bits % 0x8000_0000_0000_0000 < 0x7ff0_0000_0000_0000 {
             cells[k] = f64::from_bits(bits);
@@ -44,19 +44,15 @@ pub(crate) fn record_of(s: &[u8]) -> Record
     }
 }
 
-// The numbers of the cells before the first that is no whole number, if there is one.
-pub struct Numbers {
-    pub values: [i64; 16],
-    pub reached: usize,
-}
-
-// The numbers of the first m cells, in one pass.
-pub(crate) fn convert(r: Record, m: usize) -> Numbers
+// The first m doubles as numbers, up to the first that is no whole number. What is given back is how many there are before it: all m, if there is none.
+// The numbers are lent, since an array by value is copied at each step on its way.
+pub(crate) fn numbers_of(s: &[u8], m: usize, values: &mut [i64; 16]) -> usize
+    requires { ⌜ length (now s) ≡ 128 ⌝ }
     requires { ⌜ m ≤ 16 ⌝ }
-    requires { ⌜ Sure r ⌝ }
-    ensures { λ x. ⌜ Converted (cellNumber r) m x ⌝ }
+    requires { ⌜ length (now values) ≡ 16 ⌝ }
+    ensures { λ k. ⌜ Converted (now (s .entry)) m (now (values .exit)) k ⌝ }
 {
-    let mut values = [0i64; 16];
+    let r = record_of(s, m);
     let mut k: usize = 0;
     while k < m {
         match doubles::number_of(r.cells[k], r.finite[k]) {
@@ -65,24 +61,11 @@ pub(crate) fn convert(r: Record, m: usize) -> Numbers
                 k += 1;
             }
             Whole::Not => {
-                return Numbers {
-                    values: values,
-                    reached: k,
-                };
+                return k;
             }
         }
     }
-    Numbers {
-        values: values,
-        reached: k,
-    }
-}
-
-// Whether one of the first m cells is no whole number: before the ranges are looked at, as 18 comes before 9.
-pub(crate) fn has_fraction(x: Numbers, m: usize) -> bool
-    ensures { λ b. ⌜ b ≡ ltb (x .reached) m ⌝ }
-{
-    x.reached < m
+    k
 }
 
 // The ends of a range, low before high, from a place on.

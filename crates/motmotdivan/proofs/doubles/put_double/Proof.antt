@@ -12,8 +12,8 @@ use borrow.Author.Needs.{needs}
 use Rattle.motmotdivan.proofs.doubles.put_double.Statement.{statement}
 use Rattle.motmotdivan.proofs.doubles.put_double.Tie as tie
 
-x-is : (c : tie.After-nearest-i64-to-f64) → c .nearest-i64-to-f64 .result ≡ ofInt binary64 (c .before .before .args .z)
-x-is c = c .nearest-i64-to-f64 .ensures ∙ ap (ofInt binary64) (toZ-ofZ (c .before .before .fits .z))
+x-is : (c : tie.After-double-of) → c .double-of .result ≡ ofInt binary64 (c .before .before .args .z)
+x-is c = c .double-of .ensures ∙ ap (ofInt binary64) (toZ-ofZ (c .before .before .fits .z))
 
 float-to-bits-put-bits : tie.Need-float-to-bits-put-bits
 float-to-bits-put-bits c = subst (λ (x : Float). T (not (isNan x))) (sym (x-is (c .before))) (whole-number (c .before .before .before .args .z))

@@ -4,13 +4,12 @@ use mathlib.Core.Path.{_≡_, ap, sym, subst, _∙_}
 use lib.Dec.{T}
 use lib.IntN.{ℤ, pos, negsuc}
 use lib.Signed.{ltZ}
-use lib.Ieee.{Float, binary64, fits, ofBits, neg, eq, toSigned, ofInt}
+use lib.Ieee.{binary64, fits, ofBits, neg, eq, toSigned, ofInt}
 use mir.Syntax.{w64}
 use mir.Val.{toZ, ofZ}
 use mir.Facts.{toZ-ofZ}
 use Rattle.motmotdivan.specs.declared.doubles.Whole.the-variants.{Is}
-use Rattle.motmotdivan.proofs.Wholes.{isWhole, whole-is, none-is, below-all, above-all, wide-whole, small-equal}
-use borrow.Author.Needs.{needs}
+use Rattle.motmotdivan.proofs.Wholes.{isWhole, whole-is, none-is, below-all, above-all, wide-whole, small-equal, in-float}
 use Rattle.motmotdivan.proofs.doubles.whole_of.Statement.{statement}
 use Rattle.motmotdivan.proofs.doubles.whole_of.Tie as tie
 
@@ -38,15 +37,19 @@ returns-2 c =
     ap Is n ∙ wide-whole (s .args .x) (s .pre) (fit s) (inr (ap (ltZ (pos 9_007_199_254_740_992)) (sym n) ∙ c .if4 .taken))
 
 -- The last test, where the whole part is small
-same : (c : tie.After-nearest-i64-to-f64) →
-    let x = c .before .before .before .before .before .before .args .x in
-    eq (c .nearest-i64-to-f64 .result) x ≡ isWhole x
+int-to-float-if5 : tie.Need-int-to-float-if5
+int-to-float-if5 c = let e = c .before in in-float _ (e .before .if3 .left) (e .if4 .left)
+
+same : (c : tie.After-row-known) →
+    let t = c .before .before .before in
+    let x = t .before .before .before .args .x in
+    eq (ofInt binary64 (toZ w64 (ofZ w64 (t .truncating-f64-to-i64 .result)))) x ≡ isWhole x
 same c =
     let e = c .before in
     let l = e .before in
     let s = l .before .before .before .before in
     let n = n-is (l .before) in
-    ap (λ (y : Float). eq y (s .args .x)) (c .nearest-i64-to-f64 .ensures ∙ ap (ofInt binary64) n)
+    ap (λ (z : ℤ). eq (ofInt binary64 z) (s .args .x)) n
     ∙ small-equal (s .args .x) (s .pre) (ap (λ (z : ℤ). ltZ z (negsuc 9_007_199_254_740_991)) (sym n) ∙ l .if3 .left)
     (ap (ltZ (pos 9_007_199_254_740_992)) (sym n) ∙ e .if4 .left)
 
@@ -73,7 +76,7 @@ whole-of-spec =
     truncating-f64-to-i64-requires
     returns
     returns-2
-    (λ c κs. search needs)
+    int-to-float-if5
     returns-3
     returns-4
     returns-5

@@ -61,55 +61,43 @@ few c =
     let n = c .before .before .before .wide .result in
     leb-true n 8 (both-true (leb 1 n) (leb n 8) (not-false (leb 1 n && leb n 8) (c .before .before .if2 .left)) .1)
 
-convert-requires : tie.Need-convert-requires
-convert-requires c κs = (omega (arith, few (c .before)), c .record-of .ensures .sure)
-
--- the numbers as far as they are whole are those of the record's bytes
-whole : (c : tie.After-convert) →
-    let x = c .convert .result in
-    Whole (c .before .before .before .before .before .before .before .before .before .before .args .ranges .now) (x .values) (x .reached)
-whole c j h =
-    let r = c .before in
-    let x = c .convert .ensures in
-    ap clamped (sym (r .record-of .ensures .number j (omega (arith, few (r .before), x .inside)))) ∙ x .before j h
+numbers-of-requires : tie.Need-numbers-of-requires
+numbers-of-requires c κs = let o = c .before in (o .before .if3 .left, (omega (arith, few o), search needs))
 
 -- the factors of the codelist, if there is one
 factors : (c : tie.After-wide) (k : Codelist) → decoded (c .before .before .before .before .before .args .state .now) ≡ some k → k .factors ≡ c .wide .result
 factors c k e = sym (c .wide .ensures .0 ∙ held _ k e .factors)
 
-stopped : (c : tie.Then5) → c .before .before .convert .result .reached < 2 * c .before .before .before .before .before .before .before .wide .result
-stopped c = ltb-true _ _ (sym (c .before .has-fraction .ensures) ∙ c .if5 .taken)
-
 fraction-code-requires : tie.Need-fraction-code-requires
-fraction-code-requires c κs = omega (arith, stopped c, few (c .before .before .before .before))
+fraction-code-requires c κs = omega (arith, c .if5 .taken, few (c .before .before .before))
 
 returns-5 : tie.Need-returns-5
 returns-5 c =
     let k = c .before in
     let i = k .before in
-    let x = i .before .before in
-    let r = x .before in
-    let o = r .before in
+    let x = i .before in
+    let o = x .before .before in
     let w = o .before .before .before in
     let a = w .before .before .before .before .before .args in
     let b = a .ranges .now in
-    let n = w .wide .result in
-    let m = x .convert .result .reached in
-    let none : numberAt b m ≡ noWhole =
-    sym (r .record-of .ensures .number m (omega (arith, stopped i, few o))) ∙ x .convert .ensures .stops (stopped i) in
-    let f : rangesOf b n ≡ fraction (m / 2 + 1) = first-fraction b (x .convert .result .values) m 0 n (whole x) none (omega arith) (omega (arith, stopped i)) in
+    let v = x .numbers-of .ensures in
+    let m = x .numbers-of .result in
+    let f : rangesOf b (w .wide .result) ≡ fraction (m / 2 + 1) =
+    first-fraction b (x .numbers-of .last .1 .1 .0) m 0 (w .wide .result) (v .before) (v .stops (i .if5 .taken)) (omega arith) (omega (arith, i .if5 .taken)) in
     c .refuse-held3 .ensures ∙ ap (λ (z : ℕ). refusedQuote (cond (holdsCodelist (a .state .now)) z 10)) (k .fraction-code .ensures)
     ∙ eighteen-given (a .state .now) b (a .room) (o .before .if3 .left) (o .if4 .left) (m / 2 + 1) (λ y e. ap (rangesOf b) (factors w y e) ∙ f)
 
 -- all of them are whole
-long : (c : tie.After-values) → length (c .before .before .before .convert .result .values) ≡ 16
-long c = search needs
+long : (c : tie.After-numbers-of) → length (c .numbers-of .last .1 .1 .0) ≡ 16
+long c = c .numbers-of .ensures .long
 
 array-share-prefix-values : tie.Need-array-share-prefix-values
-array-share-prefix-values c = omega (arith, long c, few (c .before .before .before .before .before))
+array-share-prefix-values c = omega (arith, long (c .before), few (c .before .before .before))
 
 slice-aggregate-rate-at : tie.Need-slice-aggregate-rate-at
-slice-aggregate-rate-at c = sym (length-take-le _ _ (omega (arith, long (c .before), few (c .before .before .before .before .before .before))))
+slice-aggregate-rate-at c =
+    let x = c .before .before in
+    sym (length-take-le _ _ (omega (arith, long x, few (x .before .before))))
 
 answer-requires : tie.Need-answer-requires
 answer-requires c κs = subst RatePlaced (sym (ap (λ (r : Rating). r .outcome) (c .rate-at .ensures))) (rate-placed _ _)
@@ -118,18 +106,16 @@ returns-6 : tie.Need-returns-6
 returns-6 c =
     let g = c .before in
     let v = g .before .before in
-    let x = v .before .before .before in
-    let r = x .before in
-    let o = r .before in
+    let x = v .before in
+    let o = x .before .before in
     let w = o .before .before .before in
     let a = w .before .before .before .before .before .args in
     let b = a .ranges .now in
     let n = w .wide .result in
-    let z = x .convert .result in
-    let all : 2 * n ≤ z .reached = ltb-false (z .reached) (2 * n) (sym (v .before .before .has-fraction .ensures) ∙ v .before .if5 .left) in
-    let p = all-read b (z .values) 0 n (λ j h. whole x j (omega (arith, all))) (omega (arith, long v, few o)) in
+    let z = x .numbers-of .last .1 .1 .0 in
+    let p = all-read b z 0 n (λ j h. x .numbers-of .ensures .before j (omega (arith, v .if5 .left))) (omega (arith, long x, few o)) in
     c .answer .ensures ∙ ap (λ (y : Rating). quoteOf (answerOf y)) (g .rate-at .ensures)
-    ∙ rating-given (a .state .now) b (a .room) (o .before .if3 .left) (o .if4 .left) (take (2 * n) (z .values))
+    ∙ rating-given (a .state .now) b (a .room) (o .before .if3 .left) (o .if4 .left) (take (2 * n) z)
     (λ y e. (p .exact, (ap (rangesOf b) (factors w y e) ∙ p .read, p .near)))
 
 pub quoted-spec : {M : Type 1} → statement M
@@ -147,9 +133,7 @@ quoted-spec =
     (λ c κs. search needs)
     returns-4
     (λ c. search needs)
-    (λ c κs. search needs)
-    convert-requires
-    (λ c κs. search needs)
+    numbers-of-requires
     (λ c. search needs)
     fraction-code-requires
     (λ c κs. search needs)

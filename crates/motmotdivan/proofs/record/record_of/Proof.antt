@@ -10,10 +10,10 @@ use Rattle.motmotdivan.proofs.record.record_of.Statement.{statement}
 use Rattle.motmotdivan.proofs.record.record_of.Tie as tie
 
 abbrev Inv-loop : tie.InvT-loop
-Inv-loop s cells₀ finite₀ k₀ cells finite k = (k ≤ 16) × Filled s cells finite k
+Inv-loop s m cells₀ finite₀ k₀ cells finite k = (k ≤ m) × Filled s cells finite k
 
 abbrev μ-loop : tie.MeasureT-loop
-μ-loop s cells₀ finite₀ k₀ cells finite k = 16 - k
+μ-loop s m cells₀ finite₀ k₀ cells finite k = m - k
 
 loop-holds : tie.Need-loop-holds Inv-loop μ-loop
 loop-holds c = (omega arith, filled-none _ _)
