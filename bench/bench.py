@@ -23,8 +23,8 @@ numbers and from a slice of structs. A page of 1,000 boats is timed in the same 
 --cuts times classes cut finer (02, request 6), and nothing else: PATH N < CLASS reads a sheet and its ranges once and rates the class N times to the depth
 that its first line gives, PATH N rate < SHEET rates it N times uncut. What is compared is the time of a part, the whole call's over 2 to the depth.
 
---quoting times `motmotdivan_rate` of an archive (02, request 10), and nothing else: bench/quoting.c, built here with it, calls the function N times from C, and
-with another job rates by reference.c with the same bytes in and out. Both run in turn with ratings of the engine, PATH N < SHEET.
+--quoting times `motmotdivan_rate` of an archive (02, request 10), and nothing else: bench/quoting.c, built here with it, calls the function N times
+from C, and with another job rates by reference.c with the same bytes in and out. Both run in turn with ratings of the engine, PATH N < SHEET.
 """
 import argparse
 import os
@@ -407,7 +407,8 @@ def quoting_table(sheets, engine, archive, folder):
             each.round()
     table_rows = [list(each.rows()) for each in timed]
     for each, (beside_engine, beside_c) in zip(timed, table_rows):
-        print(f"{each.sheet.stem:<12}{beside_c.factors:>8}{beside_c.lines:>6}{beside_c.engine:>10.0f}{beside_engine.plain:>8.0f}{beside_c.plain:>8.0f}", end="")
+        print(f"{each.sheet.stem:<12}{beside_c.factors:>8}{beside_c.lines:>6}", end="")
+        print(f"{beside_c.engine:>10.0f}{beside_engine.plain:>8.0f}{beside_c.plain:>8.0f}", end="")
         print(f"{beside_engine.ratio:>10.3f}{beside_engine.median:>8.3f}{beside_c.ratio:>8.3f}{beside_c.median:>8.3f}")
     for name, most, rows in zip(("engine", "C"), (MOST_BESIDE_ENGINE, MOST_BESIDE_C), zip(*table_rows)):
         print(f"beside the {name}:")
@@ -426,7 +427,7 @@ def main():
     parser.add_argument("--quoting", metavar="ARCHIVE", type=Path, help="the C functions of an archive alone")
     arguments = parser.parse_args()
     if (arguments.in_2014 or arguments.pages or arguments.cuts or arguments.quoting) and arguments.earlier:
-        parser.error("--in-2014, --pages, --cuts and --quoting take no earlier build: it would have to know the year, the fleet page, the cut, and the desk")
+        parser.error("--in-2014, --pages, --cuts and --quoting take no earlier build: it would have to know the year, the page, the cut, and the desk")
     engine = arguments.engine.resolve()
     all_sheets = sorted(SHEETS.glob("*.txt"), key=lambda sheet: (shape(sheet), sheet.stem))
     classes = [sheet for sheet in all_sheets if not sheet.stem.startswith("growth-") and sheet.stem != SIGNS]

@@ -1,8 +1,8 @@
-/* quoting N JOB < INPUT: an input of `rate`, loaded once and rated N times with the records of the C functions (02, request 10). Prints the last result, as
-   `rate` does. The job is `functions`, the two of include/motmotdivan.h, or `c`, the rating of reference.c with the same bytes in and out: 128 of
-   doubles, which have to be whole numbers, and 192 of doubles, cleared where the rating is refused.
+/* quoting N JOB < INPUT: an input of `rate`, loaded once and rated N times with the records of the C functions (02, request 10). Prints the last
+   result, as `rate` does. The job is `functions`, the two of include/motmotdivan.h, or `c`, the rating of reference.c with the same bytes in and
+   out: 128 of doubles, which have to be whole numbers, and 192 of doubles, cleared where the rating is refused.
 
-   What the C does not do is find the sheet in the bytes of a desk at each rating: it keeps the sheet as it has loaded it, with the sets worked out. */
+   What the C does not do is find the sheet in the bytes of a desk at each rating: it keeps the sheet as it was loaded, with the sets worked out. */
 #define main reference_main
 #include "reference.c"
 #undef main
@@ -32,8 +32,8 @@ static void put_range(double *at, Range r) {
     at[1] = (double)r.high;
 }
 
-static __attribute__((noinline)) uint64_t rate_record(const Sheet *s, const uint8_t *ranges, size_t ranges_length, uint8_t *record, size_t record_length,
-                                                       Line *lines) {
+static __attribute__((noinline)) uint64_t rate_record(const Sheet *s, const uint8_t *ranges, size_t ranges_length, uint8_t *record,
+                                                      size_t record_length, Line *lines) {
     if (record_length != MOTMOTDIVAN_RESULT_LENGTH) return 8;
     int64_t numbers[2 * MOST_FACTORS];
     uint64_t code = ranges_length == MOTMOTDIVAN_RANGES_LENGTH ? numbers_of(s->factors, ranges, numbers) : 8;

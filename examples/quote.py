@@ -1,7 +1,7 @@
 """quote.py LIBRARY INPUT...: the limits of classes, through the C functions, from inputs of the program `rate` (examples/dinghy.in).
 
-LIBRARY is a shared library made of the archive; README.md, "Use from C and Python", says how. For each input it prints what `rate` prints, and then the
-refusal of a sheet that names the year 2015, which leaves the desk as it was.
+LIBRARY is a shared library made of the archive; README.md, "Use from C and Python", says how. For each input it prints what `rate` prints, and then
+the refusal of a sheet that names the year 2015, which leaves the desk as it was.
 """
 import ctypes
 import struct

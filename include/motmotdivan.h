@@ -1,7 +1,7 @@
 /* The limits of a class, for programs in C99 and C++: load a sheet onto a desk, then rate ranges by it.
 
-   The desk is MOTMOTDIVAN_STATE_LENGTH bytes of the caller's: docs/STATE.md says what stands in them, and in the two records. docs/SHEET.md says how a
-   sheet is written, and what to do about a refusal.
+   The desk is MOTMOTDIVAN_STATE_LENGTH bytes of the caller's: docs/STATE.md says what stands in them, and in the two records. docs/SHEET.md says how
+   a sheet is written, and what to do about a refusal. Ends count units of 1/10,000; the limit is 2,000,000,000 units on either side of 0.
 
    What a call gives, it gives for all bytes, whatever they are. The caller owes this:
    - each pointer points to as many bytes as the length behind it says, and is not null, also where that length is 0;
@@ -15,7 +15,7 @@
 #include <stdint.h>
 
 #define MOTMOTDIVAN_STATE_LENGTH 512  /* bytes of a desk */
-#define MOTMOTDIVAN_RANGES_LENGTH 128 /* 16 doubles: the low and the high end of each factor's range, in units of 1/10,000 */
+#define MOTMOTDIVAN_RANGES_LENGTH 128 /* 16 doubles: the low and the high end of each factor's range */
 #define MOTMOTDIVAN_RESULT_LENGTH 192 /* 24 doubles: value, slopes of eight factors, depends, bent, bend, full; low before high */
 
 #ifdef __cplusplus
@@ -42,13 +42,14 @@ extern "C" {
        17  the year is neither 2016 nor 2014                              1
        18  an end of a range is no whole number, is infinite or is a NaN  the factor */
 
-/* Loads a sheet: its text, without a line `box`, onto the desk. Refused with 10 where state_length is not MOTMOTDIVAN_STATE_LENGTH, whatever the text is; then
-   with 1 to 7, 15 and 17. Accepted, it writes every byte of the desk, whatever stood there; refused, it writes none. */
+/* Loads a sheet: its text, without a line `box`, onto the desk. Refused with 10 where state_length is not MOTMOTDIVAN_STATE_LENGTH, whatever the text
+   is; then with 1 to 7, 15 and 17. Accepted, it writes every byte of the desk, whatever stood there; refused, it writes none. */
 uint64_t motmotdivan_load(uint8_t *state, size_t state_length, const uint8_t *text, size_t text_length);
 
-/* Rates ranges by the sheet on the desk. A double is eight bytes of IEEE 754, the lowest first, as x86-64 has it in memory; minus zero counts as 0, and
-   those past the last factor are ignored. Refused with 10 where the desk is empty, 8 where a record is of another length, 18, 9, and then 11 or 12,
-   in this order. Accepted, it writes every byte of the result; refused, zeros. A result of another length than MOTMOTDIVAN_RESULT_LENGTH is not written. */
+/* Rates ranges by the sheet on the desk. A double is eight bytes of IEEE 754, the lowest first, as x86-64 has it in memory; minus zero counts as 0,
+   and those past the last factor are ignored. Refused with 10 where the desk is empty, with 8 where a record is of another length, with 18, with 9, and
+   then with 11 or 12, in this order. Accepted, it writes every byte of the result; refused, all of them as zeros. A result of another length than
+   MOTMOTDIVAN_RESULT_LENGTH is not written. */
 uint64_t motmotdivan_rate(const uint8_t *state, size_t state_length, const uint8_t *ranges, size_t ranges_length, uint8_t *result,
                           size_t result_length);
 

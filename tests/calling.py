@@ -1,8 +1,8 @@
-"""Compares the two C functions with 02, request 10 (tests/reference/quoting.py), by ctypes: the code, every byte of desk, text and records, and every byte
-beside them.
+"""Compares the two C functions with 02, request 10 (tests/reference/quoting.py), by ctypes: the code, every byte of desk, text and records, and every
+byte beside them.
 
-The buffers of a call lie in one stretch of random bytes, in any order, at any address. What a call is counted as comes from its bytes, not from the kind
-that it was made under.
+The buffers of a call lie in one stretch of random bytes, in any order, at any address. What a call is counted as comes from its bytes, not from the
+kind that it was made under.
 """
 import ctypes
 import random
@@ -12,8 +12,8 @@ from functools import lru_cache
 from errors import CALLED_LOAD_ERRORS, CALLED_RATE_ERRORS
 from reference.outcome import Refused, refuse
 from reference.quoting import DESK, ENTRY, HEAD, RANGES, RESULT, Load, Quoting, Rate, refusal_of
-from reference.rating import ranges_of, rate
 from reference.ranges import LIMIT
+from reference.rating import rate
 from reference.sheet import EARLIER, MOST_FACTORS, MOST_LINES, PRESENT, REFERENCES, load
 from tally import Tally
 
@@ -50,10 +50,11 @@ LOAD_RULES = [
 REFUSED_RULES = [
     f"rate: 10, {ZEROS}", f"rate: 10, {OTHER_BYTES}", *(f"rate: 10, a desk of {length}" for length in LENGTHS),
     *(f"rate: 10 over {number}" for number in (8, 18, 9)),
-    *(f"rate: 8, {record} of {length}" for record in ("ranges", "a result") for length in LENGTHS), "rate: 8, both records", "rate: 8 over 18", "rate: 8 over 9",
+    *(f"rate: 8, {record} of {length}" for record in ("ranges", "a result") for length in LENGTHS), "rate: 8, both records",
+    "rate: 8 over 18", "rate: 8 over 9",
     *(f"rate: 18, {sort}" for sort in NO_WHOLES), *(f"rate: 18 at factor {factor}" for factor in range(1, MOST_FACTORS + 1)),
-    "rate: 18, by the low end", "rate: 18, by the high end", "rate: 18, by both ends", "rate: 18, and a later factor's", "rate: 18 over 9 at a lower factor",
-    "rate: 18 over 9 at a higher factor",
+    "rate: 18, by the low end", "rate: 18, by the high end", "rate: 18, by both ends", "rate: 18, and a later factor's",
+    "rate: 18 over 9 at a lower factor", "rate: 18 over 9 at a higher factor",
     *(f"rate: 9, {sort}" for sort in BEYONDS), "rate: 9, turned round", *(f"rate: 9 at factor {factor}" for factor in range(1, MOST_FACTORS + 1)),
     *(f"rate: {number}, of {year}" for number in (11, 12) for year in (PRESENT, EARLIER)),
 ]
@@ -63,7 +64,8 @@ ACCEPTED_RULES = [
     "rate: accepted, 63 operations", "rate: accepted, a low end of minus zero", "rate: accepted, a high end of minus zero",
     *(f"rate: accepted, {sort} past the last factor" for sort in (*NO_WHOLES, *BEYONDS, MINUS_ZERO)),
     *(f"rate: accepted, {what}" for what in (
-        "0 in the result", "a number below 0", "a number above 2^24", "an empty bent set", "a full bend that is not the bend", "all eight factors count")),
+        "0 in the result", "a number below 0", "a number above 2^24", "an empty bent set", "a full bend that is not the bend",
+        "all eight factors count")),
 ]
 
 BYTE_RULES = [f"changed: byte {at}" for at in range(DESK)]

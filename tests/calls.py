@@ -1,7 +1,7 @@
 """Calls of the two C functions (02, request 10): random ones, and a good desk with each of its bytes changed.
 
-A random case is a sheet that is loaded, of the kinds of generate.py, and some ratings by its desk. The desk, the lengths of the records and the numbers in
-them are each damaged now and then, one apart from the others, so that refusals of all sorts meet in one call.
+A random case is a sheet that is loaded, of the kinds of generate.py, and some ratings by its desk. The desk, the lengths of the records and the
+numbers in them are each damaged now and then, one apart from the others, so that refusals of all sorts meet in one call.
 """
 import math
 import struct

@@ -9,8 +9,8 @@ blanks stand for the tabs. In the same way an indented paragraph of any of the t
 `$ target/bin/tidy < examples/FILE` (or `rate`, `fleet`, `cut`, `sisters`) or `$ cat examples/FILE`, and what it prints below; the file may be in a
 directory of examples/. The commands of README.md, "Use from C and Python", are left to tests/quoting.py, which has the library.
 
-Fails, too, where an operation, a refusal, a program or the year 2014 has no example, where a refusal of SHEET.md's table has no paragraph, and where the header
-for C, docs/STATE.md, SHEET.md and examples/quote.py don't have the same lengths and refusals.
+Fails, too, where an operation, a refusal, a program or the year 2014 has no example, where a refusal of SHEET.md's table has no paragraph, and where
+the header for C, docs/STATE.md, SHEET.md and examples/quote.py don't have the same lengths and refusals.
 """
 import argparse
 import re

@@ -8,9 +8,9 @@ it comes; and of request 9: of which years are taken, of what else stands in a t
 misses of what is used, what is kept, how it is renumbered and when the year is named; those of the fleet page (request 3), of what a boat is, of what
 is counted, summed and compared, and of which lists are taken; those of classes cut finer (request 6), of which range is cut, where and how often, of
 what is made of the two halves, of which depths are taken, and of the first line; those of sister boats (request 7), of which products are summed and
-how the sums are rounded, of which boats are taken and when that is asked, and of the boat lines. Of these three the year can be forgotten, too. Those of
-the C functions (request 10) are near misses of the code, of what is written and when, of which desks are empty, of which doubles are whole numbers, of
-the order of refusals, and of the two records.
+how the sums are rounded, of which boats are taken and when that is asked, and of the boat lines. Of these three the year can be forgotten, too.
+Those of the C functions (request 10) are near misses of the code, of what is written and when, of which desks are empty, of which doubles are whole
+numbers, of the order of refusals, and of the two records.
 """
 import re
 import struct
@@ -3939,10 +3939,11 @@ class PlaceAsTextLine(Quoting):
 CALLED_RATE_ERRORS = [
     PlaceTimesTen, PlaceForgotten, PlaceFirst, CodeOfOneByte, NotCleared, AlwaysCleared, ClearedIfLong, ClearedBehindTen, ClearedBehindEight,
     LongerResultTaken, LongerRangesTaken, RangesOfFactorsTaken, LongerDeskRated, ShorterDeskRated,
-    EightBeforeTen, EighteenBeforeTen, EighteenBeforeEight, EighteenBehindNine, EighteenInTurn, EighteenHighestFactor, EighteenFromZero, EighteenAtDouble,
-    EighteenAtZero, LowEndsTested, PastLastTested, OneMoreTested, MinusZeroRefused, FractionsDropped, FractionsRounded, NearlyWholeTaken,
-    SubnormalsTaken, InfinityBeyond, NaNTaken, SignallingTaken, HugeRefused, BeyondExactRefused, BeyondLimitRefused, WholeOf32Bits, WholeOf64Bits,
-    HighestFirst, ByteBehindIgnored, LastByteIgnored, HeadZerosIgnored, YearIgnored, AnyYear, FourthByteIgnored, SecondLineIgnored, ConstantIgnored,
-    TimesZeroOnDesk, ConstantCut, ExponentCut, ExponentRaised, ReferenceRaised, OwnLineTaken, ZerosRated, BendBehindFull, BentBeforeDepends,
-    HighBeforeLow, SlopesOfFactors, MaskFromTwo, SetCounted, MinusZeroWritten, WrittenHighestFirst, SinglesWritten, PlaceAsTextLine,
+    EightBeforeTen, EighteenBeforeTen, EighteenBeforeEight, EighteenBehindNine, EighteenInTurn, EighteenHighestFactor, EighteenFromZero,
+    EighteenAtDouble, EighteenAtZero, LowEndsTested, PastLastTested, OneMoreTested, MinusZeroRefused, FractionsDropped, FractionsRounded,
+    NearlyWholeTaken, SubnormalsTaken, InfinityBeyond, NaNTaken, SignallingTaken, HugeRefused, BeyondExactRefused, BeyondLimitRefused, WholeOf32Bits,
+    WholeOf64Bits, HighestFirst, ByteBehindIgnored, LastByteIgnored, HeadZerosIgnored, YearIgnored, AnyYear, FourthByteIgnored, SecondLineIgnored,
+    ConstantIgnored, TimesZeroOnDesk, ConstantCut, ExponentCut, ExponentRaised, ReferenceRaised, OwnLineTaken, ZerosRated, BendBehindFull,
+    BentBeforeDepends, HighBeforeLow, SlopesOfFactors, MaskFromTwo, SetCounted, MinusZeroWritten, WrittenHighestFirst, SinglesWritten,
+    PlaceAsTextLine,
 ]

@@ -1,10 +1,10 @@
 /* fuzz CALLS SEED: calls of the two functions on bytes that are random, or good and then damaged, and what has to hold of every call:
 
    - it comes to its end, with a code that is one of its refusals' and a place that this refusal can have;
-   - no byte beside a buffer changes, and none of the desk, text or ranges that it only reads. A buffer may lie against a page that cannot be read or written;
+   - no byte beside a buffer changes, and none of the desk, text or ranges that it only reads. A buffer may lie against a page that cannot be touched;
    - a refused load leaves the desk as it was; after an accepted one, rating by the desk is never refused with 10;
-   - after a refused rating the result is zeros, or as it was where it is of another length; after an accepted one it has whole numbers within the limit, low
-     ends that are not above the high ends, sets of factors, and no minus zero;
+   - after a refused rating the result is zeros, or as it was where it is of another length; after an accepted one it has whole numbers within the
+     limit, low ends that are not above the high ends, sets of factors, and no minus zero;
    - lengths alone decide a load's 10, and a rating's 8 where the desk is good; the same bytes give the same answer.
 
    The seed is printed, so that a run can be made again. Ends with 1 where something does not hold, or where a refusal was never met. */
@@ -143,7 +143,8 @@ static size_t write_text(uint8_t *text) {
     case 0: randomize(text, length = below(one_in(8) ? MOST_TEXT + 1 : 100)); return length;
     case 1: /* fields of a sheet in any order */
         for (length = 0; length < 60 && !one_in(12);) {
-            static const char *const words[] = {"factors", "add", "mul", "addc", "mulc", "pow", "inv", "\t", "\t", "\t", "\n", "\n", "1", "2", "9", "2014", "2015"};
+            static const char *const words[] = {"factors", "add", "mul", "addc", "mulc", "pow", "inv", "\t", "\t", "\t", "\n", "\n", "1", "2", "9",
+                                                "2014", "2015"};
             const char *word = words[below(sizeof words / sizeof *words)];
             memcpy(text + length, word, strlen(word));
             length += strlen(word);
@@ -223,7 +224,7 @@ static void check_result(const uint8_t *result) {
     double x[24];
     memcpy(x, result, sizeof x);
     for (int k = 0; k < 24; k++) {
-        if (!(x[k] >= -LIMIT && x[k] <= LIMIT) || x[k] != (double)(long)x[k]) fail("a result with something else than a whole number within the limit");
+        if (!(x[k] >= -LIMIT && x[k] <= LIMIT) || x[k] != (double)(long)x[k]) fail("a result with something that is no whole number within the limit");
         if (memcmp(result + 8 * k, minus_zero, 8) == 0) fail("a result with a minus zero");
         if (k % 2 == 0 && k != 18 && x[k] > x[k + 1]) fail("a low end above the high end");
         if ((k == 18 || k == 19) && (x[k] < 0 || x[k] > 255)) fail("a set of other factors");

@@ -3,16 +3,16 @@
 
 tests/quoting.py [--archive PATH] [--seed N] [--count N] [--fuzz N] [--jobs N]
     the archive: proved and built by `rt staticlib motmotdivan`, unless one is named
-    README.md, "Use from C and Python": its commands as they stand there, in a folder that is removed afterwards, and what they print; examples/quote.c and
-    examples/quote.py beside the files of what they print
+    README.md, "Use from C and Python": its commands as they stand there, in a folder that is removed afterwards, and what they print; examples/quote.c
+    and examples/quote.py beside the files of what they print
     include/motmotdivan.h as C++, where there is a compiler for it; the bytes of docs/STATE.md
-    calls of the two functions (calls.py) beside tests/reference: every code, and every byte that was handed over or lies beside it (calling.py); the figures
-    and examples of `rate`, each as a load and a rating
+    calls of the two functions (calls.py) beside tests/reference: every code, and every byte that was handed over or lies beside it (calling.py); the
+    figures and examples of `rate`, each as a load and a rating
     tests/fuzz.c: calls on random bytes, with the address and undefined-behaviour sanitizers where cc has them
 
-Fails, too, where a rule was never met, a byte of a good desk never changed, or a wrong rule of errors.py never told from the right ones. The same seed
-gives the same calls, for any number of processes that they are dealt out to (--jobs). The closing line counts each call once, and each run of a
-program once.
+Fails, too, where a rule was never met, a byte of a good desk never changed, or a wrong rule of errors.py never told from the right ones. The same
+seed gives the same calls, for any number of processes that they are dealt out to (--jobs). The closing line counts each call once, and each run of
+a program once.
 """
 import argparse
 import os
@@ -31,12 +31,13 @@ from figures import FIGURES
 from reference.outcome import Refused
 from reference.quoting import DESK, RESULT, Load, Quoting, Rate
 from reference.sheet import EARLIER, MOST_FACTORS, PRESENT, load
-from reference.text import box_ends, parted, run
+from reference.text import box_ends, parted
 from shares import all_compared, missed_by
 
 ROOT = Path(__file__).resolve().parent.parent
 README, STATE, EXAMPLES = ROOT / "README.md", ROOT / "docs" / "STATE.md", ROOT / "examples"
 ARCHIVE = Path("target/staticlib/libmotmotdivan.a")
+PRINTED = {"target/quote ": "quote-c.out", "python3 examples/quote.py ": "quote-py.out"}  # what the commands of the examples print
 STRICT = ["-Wall", "-Wextra", "-Werror", "-pedantic"]
 SANITIZERS = "-fsanitize=address,undefined"
 SWEEP_ROUNDS = 2  # for each sheet whose desk has each of its bytes changed
@@ -101,12 +102,12 @@ def examples_in(folder, archive, runs):
     if not commands or commands[0] != ("rt staticlib motmotdivan", None):
         runs.judge(f"{README.name}, '{CALLED}'", "its first command is not `rt staticlib motmotdivan`")
     for command, output in commands[1:]:
-        written = [EXAMPLES / f"quote-{of}.out" for of, word in (("c", "target/quote "), ("py", "python3 examples/quote.py ")) if command.startswith(word)]
+        written = [EXAMPLES / name for word, name in PRINTED.items() if command.startswith(word)]
         expected = written[0].read_bytes() if written else output or b""
         runs.run(command, command, folder, expected)
         if written and output is not None and output != expected:
             runs.judge(f"{README.name} beside {written[0].name}", "they differ")
-    for wanted in ("cc -std=c99 " + " ".join(STRICT), "target/quote ", "cc -shared ", "python3 examples/quote.py "):
+    for wanted in ("cc -std=c99 " + " ".join(STRICT), "cc -shared ", *PRINTED):
         if not any(command.startswith(wanted) for command, _ in commands):
             runs.judge(f"{README.name}, '{CALLED}'", f"no command `{wanted.strip()}`")
 
@@ -158,8 +159,8 @@ def fixed_cases(seed):
 
 
 def cases(seed, count, share):
-    """A name, a call, and the good desk that its desk was made of by a change, where it was. The random ones come first: they tell most wrong rules from
-    the right ones, so that few are left to try on the others."""
+    """A name, a call, and the good desk that its desk was made of by a change, where it was. The random ones come first: they tell most wrong rules
+    from the right ones, so that few are left to try on the others."""
     for number in range(count)[share]:
         kind, made = calls.case(random.Random(f"{seed}/call/{number}"))
         for k, case in enumerate(made):

@@ -1,4 +1,5 @@
-"""02, request 10: load and rate as the C functions do them, on bytes. The desk's are those of docs/STATE.md, a double is what `struct` takes it for."""
+"""02, request 10: load and rate as the C functions do them, on bytes. The desk's are those of docs/STATE.md, a double is what `struct` takes it
+for."""
 import struct
 from typing import NamedTuple
 
