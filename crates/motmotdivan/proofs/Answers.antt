@@ -1,6 +1,6 @@
 -- What the bytes of a desk and the record of ranges come to, as the code finds it out.
-use Prim.Native.Nat.{ℕ, _+_, _*_, _≤_, _<_}
-use mathlib.Core.Bool.{Bool, true, false, cond, _&&_}
+use Prim.Native.Nat.{ℕ, _≤_}
+use mathlib.Core.Bool.{false, cond, _&&_}
 use mathlib.Core.List.{List, map}
 use mathlib.Core.Option.{Option, some, none, Option·getD}
 use mathlib.Core.Path.{_≡_, refl, sym, ap, _∙_}
@@ -16,7 +16,7 @@ use Rattle.rules.specs.Rate.{rateOf}
 use Rattle.encoding.specs.Encode.{encoded}
 use Rattle.encoding.specs.Decode.{decoded, lentCodelist, holdsCodelist}
 use Rattle.encoding.proofs.Decoded.{decodes-exactly}
-use Rattle.motmotdivan.specs.Record.{Read, numbers, fraction, rangesOf}
+use Rattle.motmotdivan.specs.Record.{numbers, fraction, rangesOf}
 use Rattle.motmotdivan.specs.Calls.{codeOf, answerOf, onRead, onCodelist, rateAnswer}
 use Rattle.motmotdivan.specs.Views.{clamp, refusedQuote, quoteOf}
 use Rattle.motmotdivan.proofs.Clamped.{rate-clamped}

@@ -7,12 +7,11 @@ use native.Mathlib.Decide.{ℕ-discrete}
 use native.Mathlib.Omega.{arith}
 use lib.IntN.{ℤ}
 use lib.Ieee.{binary64, ofBits}
-use lib.ListN.{length, take, drop}
-use lib.Seq.{take-take, take-nil, drop-nil}
+use lib.ListN.{take, drop}
+use lib.Seq.{take-take}
 use Rattle.encoding.specs.Bytes.{numberOf}
 use Rattle.motmotdivan.specs.Doubles.{Number, whole, noWhole, wholeOf}
-use Rattle.motmotdivan.specs.Record.{patternAt, numberAt, Read, numbers, fraction, before, readFrom, rangesOf}
-use Rattle.motmotdivan.specs.Quoting.{HasFraction}
+use Rattle.motmotdivan.specs.Record.{numberAt, Read, numbers, fraction, before, readFrom}
 
 not-numbers : {X : Type 0} {xs : List ℤ} {k : ℕ} → numbers xs ≡ fraction k → X
 not-numbers e = absurd (let n : _≡_ {A = ℕ} 0 1 = cc in omega arith)

@@ -1,10 +1,10 @@
 -- Every place of a refusal is at most 65: a text line after the 63rd operation's is the 65th, a codelist line is at most the 64th, a factor the eighth.
-use Prim.Native.Nat.{ℕ, suc, _+_, _≤_, _<_}
+use Prim.Native.Nat.{ℕ, suc, _+_, _≤_}
 use mathlib.Core.List.{List, [], _∷_, _++_}
 use mathlib.Core.Logic.{_⊎_, inl, inr}
 use mathlib.Core.Path.{_≡_, refl, sym, ap, subst, _∙_}
 use native.Mathlib.Omega.{arith}
-use lib.Dec.{lit<, lit≤}
+use lib.Dec.{lit≤}
 use lib.IntN.{ℤ}
 use lib.ListN.{length, length-append, length-take}
 use Rattle.codelist.specs.declared.Codelist.{Codelist}
@@ -18,7 +18,6 @@ use Rattle.codelist.proofs.Accepted.{refused-empty}
 use Rattle.codelist.proofs.Refused.{refused-exactly}
 use Rattle.rules.specs.declared.Line.{Line}
 use Rattle.rules.specs.declared.Limits.{Limits}
-use Rattle.rules.specs.declared.Outcome as rating
 use Rattle.rules.specs.declared.Rating.{Rating}
 use Rattle.rules.specs.declared.Refusal as rules
 use Rattle.rules.specs.Table.{lineOf}

@@ -1,17 +1,15 @@
 -- What is promised of the two calls: `quoting`.
-use Prim.Native.Nat.{ℕ, _+_, _-_, _*_, _%_, _^_, _≤_, _<_}
+use Prim.Native.Nat.{ℕ, _+_, _-_, _*_, _%_, _≤_, _<_}
 use mathlib.Core.List.{List, List·Memᴰ}
-use mathlib.Core.Logic.{_⊎_, inl, inr}
 use mathlib.Core.Path.{_≡_, refl, sym, ap, subst, _∙_}
 use native.Mathlib.Omega.{arith}
-use lib.IntN.{ℤ, pos, natAbs}
+use lib.IntN.{ℤ, pos}
 use lib.Ieee.{binary64, ofBits, ofInt, toBits}
 use lib.ListN.{length, getD, take, replicate}
 use borrow.Author.Tests.{eq-eqb, ne-eqb}
 use Rattle.codelist.specs.declared.Codelist.{Codelist}
 use Rattle.rules.specs.declared.Limits.{Limits}
 use Rattle.rules.specs.declared.Outcome as rating
-use Rattle.rules.specs.declared.Rating.{Rating}
 use Rattle.rules.specs.declared.Refusal as rules
 use Rattle.rules.specs.Rate as Rate
 use Rattle.rules.specs.Rate.{rated, rateOf}
@@ -21,10 +19,10 @@ use Rattle.engine.specs.Engine.{outcomeOf, ratedOf}
 use Rattle.engine.proofs.Demands.{demands}
 use Rattle.encoding.specs.Bytes.{lowFirst}
 use Rattle.motmotdivan.specs.Doubles.{doubleOf}
-use Rattle.motmotdivan.specs.Record.{patternAt, numberAt, numbers, fraction, rangesOf, resultNumbers, doublesOf, resultRecord}
+use Rattle.motmotdivan.specs.Record.{patternAt, numbers, fraction, rangesOf, resultNumbers, resultRecord}
 use Rattle.motmotdivan.specs.Calls.{codeOf, quotedRateNumbers, Answer, result, refusal, answered, answerOf, onRead}
 use Rattle.motmotdivan.specs.Calls.{answerCode, answerRecord, rateAnswer, rateCode, rateRecord}
-use Rattle.motmotdivan.specs.Quoting.{Exactly, Given, HasFraction, LowestFraction, Coded, engineCode, SoundQuote, Quoting}
+use Rattle.motmotdivan.specs.Quoting.{Exactly, Given, LowestFraction, Coded, engineCode, SoundQuote, Quoting}
 use Rattle.motmotdivan.proofs.Cases.{Fit, Came, no-codelist, other-length, by-fraction, by-rating, read-answer, came, ListedAnswer, listed}
 use Rattle.motmotdivan.proofs.Exact.{read-sound, read-complete, double-exactly}
 use Rattle.motmotdivan.proofs.Loading.{coded, elsewhere, refused-code, zero-sound, zero-complete, in-list, kept, left-sound, left-complete}

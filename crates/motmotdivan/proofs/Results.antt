@@ -138,7 +138,7 @@ front-one : (zs : List ℤ) (z : ℤ) (s : List ℕ) (at : ℕ) → Front zs s �
 front-one zs z s at f e h =
     subst (λ (vs : List ℕ). Front (zs ++ (z ∷ [])) (sets s at vs)) (double-alone z) (front-more zs (z ∷ []) s at f e (omega arith))
 
-module _ (l : Limits) (e : length (l .gradient) ≡ 8) (s : List ℕ) where
+module _ (l : Limits) (e : length (l .gradient) ≡ 8) where
   support-length : length (upToSupport l) ≡ 19
   support-length = length-append (slopes l) (pos (l .support) ∷ []) ∙ omega (arith, slopes-length (l .value) (l .gradient), e)
 
@@ -151,30 +151,31 @@ module _ (l : Limits) (e : length (l .gradient) ≡ 8) (s : List ℕ) where
   pub full-length : length (upToFull l) ≡ 24
   full-length = length-append (upToSpectrum l) (endsOf (l .full ∷ [])) ∙ omega (arith, spectrum-length, ends-length (l .full ∷ []))
 
-  pub front-support : Front (slopes l) s → Front (upToSupport l) (sets s 144 (doubleOf (pos (l .support))))
-  front-support f = front-one (slopes l) (pos (l .support)) s 144 f (omega (arith, slopes-length (l .value) (l .gradient), e)) (lit≤ tt)
-
-  pub front-nonlinear : Front (upToSupport l) s → Front (upToNonlinear l) (sets s 152 (doubleOf (pos (l .nonlinear))))
-  front-nonlinear f = front-one (upToSupport l) (pos (l .nonlinear)) s 152 f (omega (arith, support-length)) (lit≤ tt)
-
-  pub front-spectrum : Front (upToNonlinear l) s → Front (upToSpectrum l) (sets s 160 (doublesOf (endsOf (l .spectrum ∷ []))))
-  front-spectrum f =
-      front-more (upToNonlinear l) (endsOf (l .spectrum ∷ [])) s 160 f (omega (arith, nonlinear-length)) (omega (arith, ends-length (l .spectrum ∷ [])))
-
-  pub front-full : Front (upToSpectrum l) s → Front (upToFull l) (sets s 176 (doublesOf (endsOf (l .full ∷ []))))
-  front-full f =
-      front-more (upToSpectrum l) (endsOf (l .full ∷ [])) s 176 f (omega (arith, spectrum-length)) (omega (arith, ends-length (l .full ∷ [])))
-
   pub all-numbers : upToFull l ≡ resultNumbers l
   unfolding endsOf
   all-numbers =
       append-assoc (upToNonlinear l) (endsOf (l .spectrum ∷ [])) (endsOf (l .full ∷ []))
       ∙ ap (λ (t : List ℤ). t ++ endsOf (l .spectrum ∷ l .full ∷ [])) (append-assoc (slopes l) (pos (l .support) ∷ []) (pos (l .nonlinear) ∷ []))
 
-  -- THE WHOLE RESULT
-  pub front-result : Front (upToFull l) s → s ≡ resultRecord l
-  unfolding resultRecord
-  front-result f = front-whole (upToFull l) s f full-length ∙ ap doublesOf all-numbers
+  module _ (s : List ℕ) where
+    pub front-support : Front (slopes l) s → Front (upToSupport l) (sets s 144 (doubleOf (pos (l .support))))
+    front-support f = front-one (slopes l) (pos (l .support)) s 144 f (omega (arith, slopes-length (l .value) (l .gradient), e)) (lit≤ tt)
+
+    pub front-nonlinear : Front (upToSupport l) s → Front (upToNonlinear l) (sets s 152 (doubleOf (pos (l .nonlinear))))
+    front-nonlinear f = front-one (upToSupport l) (pos (l .nonlinear)) s 152 f (omega (arith, support-length)) (lit≤ tt)
+
+    pub front-spectrum : Front (upToNonlinear l) s → Front (upToSpectrum l) (sets s 160 (doublesOf (endsOf (l .spectrum ∷ []))))
+    front-spectrum f =
+        front-more (upToNonlinear l) (endsOf (l .spectrum ∷ [])) s 160 f (omega (arith, nonlinear-length)) (omega (arith, ends-length (l .spectrum ∷ [])))
+
+    pub front-full : Front (upToSpectrum l) s → Front (upToFull l) (sets s 176 (doublesOf (endsOf (l .full ∷ []))))
+    front-full f =
+        front-more (upToSpectrum l) (endsOf (l .full ∷ [])) s 176 f (omega (arith, spectrum-length)) (omega (arith, ends-length (l .full ∷ [])))
+
+    -- THE WHOLE RESULT
+    pub front-result : Front (upToFull l) s → s ≡ resultRecord l
+    unfolding resultRecord
+    front-result f = front-whole (upToFull l) s f full-length ∙ ap doublesOf all-numbers
 
 -- After a refusal every number is 0, and so is every byte
 pub no-result : resultRecord noLimits ≡ replicate 192 0

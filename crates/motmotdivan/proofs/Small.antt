@@ -1,5 +1,5 @@
 -- The numbers of a result: twenty-four of them, within the limit, or a set of at most eight factors.
-use Prim.Native.Nat.{ℕ, suc, zero, _+_, _*_, _^_, _≤_, _<_}
+use Prim.Native.Nat.{ℕ, suc, zero, _+_, _^_, _≤_, _<_}
 use mathlib.Core.Bool.{true, _&&_}
 use mathlib.Core.List.{List, [], _∷_, _++_}
 use mathlib.Core.Option.{Option}
@@ -111,4 +111,4 @@ module _ (c : Codelist) (xs : List ℤ) (l : Limits) (e : rateOf c xs ≡ rated 
   unfolding limitsOf
   many-result =
       let g : length (l .gradient) ≡ 8 = ap (λ (k : Limits). length (k .gradient)) (A .limits) ∙ fine .1 in
-      ap length (sym (all-numbers l g [])) ∙ full-length l g []
+      ap length (sym (all-numbers l g)) ∙ full-length l g

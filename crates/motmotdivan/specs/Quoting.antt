@@ -24,7 +24,7 @@ use Rattle.encoding.specs.Decode.{decoded}
 use Rattle.motmotdivan.specs.Doubles.{whole, noWhole, signed, wholeOf, doubleOf}
 use Rattle.motmotdivan.specs.Record.{patternAt, numberAt, numbers, rangesOf, resultNumbers, resultRecord}
 use Rattle.motmotdivan.specs.Calls.{codeOf, quotedLoadNumbers, loadCode, loadState}
-use Rattle.motmotdivan.specs.Calls.{quotedRateNumbers, Answer, result, refusal, rateAnswer, rateCode, rateRecord}
+use Rattle.motmotdivan.specs.Calls.{quotedRateNumbers, result, refusal, rateAnswer, rateCode, rateRecord}
 
 -- ════ doubles ════
 

@@ -1,6 +1,5 @@
 -- `number_of` meets its contract: the double's own number where it is finite.
 use mathlib.Core.Path.{_∙_}
-use borrow.Author.Needs.{needs}
 use Rattle.motmotdivan.proofs.doubles.number_of.Statement.{statement}
 use Rattle.motmotdivan.proofs.doubles.number_of.Tie as tie
 

@@ -1,5 +1,5 @@
 -- `refuse_held` meets its contract: the test says whether the bytes hold a codelist.
-use mathlib.Core.Path.{_≡_, sym, _∙_}
+use mathlib.Core.Path.{sym, _∙_}
 use borrow.Author.Needs.{needs}
 use Rattle.motmotdivan.proofs.quote.refuse_held.Statement.{statement}
 use Rattle.motmotdivan.proofs.quote.refuse_held.Tie as tie

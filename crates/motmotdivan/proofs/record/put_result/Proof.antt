@@ -1,6 +1,6 @@
 -- `put_result` meets its contract: after each store the numbers so far stand at the front.
 use Prim.Native.Nat.{_-_, _≤_, _<_}
-use mathlib.Core.List.{List, [], _∷_, _++_}
+use mathlib.Core.List.{[], _∷_, _++_}
 use mathlib.Core.Path.{_≡_, refl, sym, subst, _∙_}
 use native.Mathlib.Omega.{arith}
 use lib.IntN.{pos}
