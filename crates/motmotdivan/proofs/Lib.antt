@@ -13,4 +13,3 @@ pub mod Lowest
 pub mod Cases
 pub mod Loading
 pub mod Quoting
-pub mod Figures

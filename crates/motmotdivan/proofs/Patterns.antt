@@ -13,10 +13,11 @@ use lib.Ieee.{Float, nan, inf, binary64, odd, units, round, ofInt, isNan, ofFiel
 use lib.Ieee.Bits.{nanBits-above}
 use lib.Ieee.Fits.{round-is}
 use lib.Ieee.Scale.{finite}
-use borrow.Author.Tests.{eq-eqb, ne-eqb, le-ltb}
+use borrow.Author.Tests.{eq-eqb, ne-eqb, le-ltb, ltb-true, ltb-false}
 use Rattle.encoding.specs.Bytes.{numberOf}
 use Rattle.encoding.proofs.Numbers.{number-four}
 use Rattle.motmotdivan.specs.Doubles.{noWhole, wholeOf}
+use Rattle.motmotdivan.specs.Views.{finitePattern}
 
 number-append : (xs ys : List ℕ) → numberOf (xs ++ ys) ≡ numberOf xs + 256 ^ length xs * numberOf ys
 unfolding numberOf
@@ -62,16 +63,27 @@ field-ones s (suc x) t h = rw (eq-eqb (suc x) 2047 h) (go (eqb t 0))
     go true = refl
     go false = refl
 
-pub pattern-finite : (p : ℕ) → p % 9_223_372_036_854_775_808 < 9_218_868_437_227_405_312 → T (finite (ofBits binary64 p))
-unfolding ofBits
-pattern-finite p h = field-finite (leb (2 ^ 63) p) (p % 2 ^ 63 / 2 ^ 52) (p % 2 ^ 52) (omega arith)
+abbrev most : ℕ
+most = 9_218_868_437_227_405_312
 
-pub pattern-not-finite : (p : ℕ) → 9_218_868_437_227_405_312 ≤ p % 9_223_372_036_854_775_808 → wholeOf (ofBits binary64 p) ≡ noWhole
-unfolding ofBits
-pattern-not-finite p h = field-ones (leb (2 ^ 63) p) (p % 2 ^ 63 / 2 ^ 52) (p % 2 ^ 52) (omega arith)
+abbrev unsigned : ℕ → ℕ
+unsigned p = p % 9_223_372_036_854_775_808
 
-pub pattern-number : (p : ℕ) → p % 9_223_372_036_854_775_808 < 9_218_868_437_227_405_312 → T (not (nanBits binary64 p))
-pattern-number p h =
+pub pattern-finite : (p : ℕ) → finitePattern p ≡ true → T (finite (ofBits binary64 p))
+unfolding ofBits
+pattern-finite p e =
+    let h = ltb-true (unsigned p) most e in
+    field-finite (leb (2 ^ 63) p) (p % 2 ^ 63 / 2 ^ 52) (p % 2 ^ 52) (omega arith)
+
+pub pattern-not-finite : (p : ℕ) → finitePattern p ≡ false → wholeOf (ofBits binary64 p) ≡ noWhole
+unfolding ofBits
+pattern-not-finite p e =
+    let h = ltb-false (unsigned p) most e in
+    field-ones (leb (2 ^ 63) p) (p % 2 ^ 63 / 2 ^ 52) (p % 2 ^ 52) (omega arith)
+
+pub pattern-number : (p : ℕ) → finitePattern p ≡ true → T (not (nanBits binary64 p))
+pattern-number p e =
+    let h = ltb-true (unsigned p) most e in
     subst (λ (b : Bool). T (not b)) (sym (nanBits-above binary64 p ∙ le-ltb (2047 * 2 ^ 52) (p % 2 ^ 63) (omega arith))) tt
 
 -- A whole number as a double is no NaN

@@ -1,9 +1,9 @@
 -- For the contracts of private functions only.
-use Prim.Native.Nat.{ℕ, min, _≤_, _<_}
-use mathlib.Core.Bool.{true, false, cond}
+use Prim.Native.Nat.{ℕ, min, _%_, _≤_, _<_}
+use mathlib.Core.Bool.{Bool, true, false, cond}
 use mathlib.Core.List.{List}
 use mathlib.Core.Path.{_≡_}
-use lib.Dec.{T}
+use lib.Dec.{T, ltb}
 use lib.IntN.{ℤ, pos, negsuc}
 use lib.Ieee.{nan}
 use lib.Ieee.Scale.{finite}
@@ -29,6 +29,10 @@ clamp (negsuc n) = negsuc (min n 9_223_372_036_854_775_807)
 abbrev pub clamped : Number → Whole
 clamped (whole z) = Is (clamp z)
 clamped noWhole = Not
+
+-- A pattern whose exponent's field is not all ones
+abbrev pub finitePattern : ℕ → Bool
+finitePattern p = ltb (p % 9_223_372_036_854_775_808) 9_218_868_437_227_405_312
 
 -- The number of a cell. Of one that is not finite nothing else is asked.
 unfoldable pub cellNumber : declared.Record → ℕ → Number

@@ -9,7 +9,7 @@ ghost use lib.ListN.{length, take, drop};
 ghost use lib.Seq.{sets};
 ghost use Rattle.encoding.specs.Bytes.{numberOf, lowFirst};
 ghost use Rattle.motmotdivan.specs.Doubles.{noWhole, wholeOf, doubleOf};
-ghost use Rattle.motmotdivan.specs.Views.{clamped};
+ghost use Rattle.motmotdivan.specs.Views.{clamped, finitePattern};
 use super::codes::wide;
 
 // The whole number that a double is, if it is one: the nearest in 64 bits, so that one beyond the limit stays beyond it.
@@ -63,6 +63,13 @@ pub(crate) fn bits_at(s: &[u8], at: usize) -> u64
     let high = wide(s[at + 4])
         + 256 * (wide(s[at + 5]) + 256 * (wide(s[at + 6]) + 256 * wide(s[at + 7])));
     low + 4294967296 * high
+}
+
+// Whether a pattern is that of a finite double: its exponent is not all ones. Zeros of both signs are.
+pub(crate) fn is_finite(bits: u64) -> bool
+    ensures { λ r. ⌜ r ≡ finitePattern bits ⌝ }
+{
+    bits % 0x8000_0000_0000_0000 < 0x7ff0_0000_0000_0000
 }
 
 // A pattern into the eight bytes from a place on.

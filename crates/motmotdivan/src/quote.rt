@@ -76,7 +76,7 @@ pub(crate) fn quoted(state: &[u8], ranges: &[u8], room: usize) -> Quote
     let m = 2 * n;
     let mut values = [0i64; 16];
     let whole = record::numbers_of(ranges, m, &mut values);
-    if whole < m {
+    if record::has_fraction(&values[..whole], m) {
         return refuse_held(state, codes::fraction_code(whole as u64 / 2 + 1));
     }
     answer(bounds::rate_at(state, &values[..m]))

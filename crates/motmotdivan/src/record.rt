@@ -2,6 +2,7 @@
 ghost use mathlib.Core.Path.{_≡_};
 ghost use mathlib.Core.List.{[], _∷_};
 ghost use Prim.Native.Nat.{_+_, _≤_};
+ghost use lib.Dec.{ltb};
 ghost use lib.ListN.{length};
 ghost use lib.Seq.{sets};
 ghost use Rattle.motmotdivan.specs.Record.{endsOf, doublesOf, resultRecord};
@@ -32,7 +33,7 @@ fn record_of(s: &[u8], m: usize) -> Record
     let mut k: usize = 0;
     while k < m {
         let bits = doubles::bits_at(s, 8 * k);
-        if bits % 0x8000_0000_0000_0000 < 0x7ff0_0000_0000_0000 {
+        if doubles::is_finite(bits) {
             cells[k] = f64::from_bits(bits);
             finite[k] = true;
         }
@@ -66,6 +67,13 @@ pub(crate) fn numbers_of(s: &[u8], m: usize, values: &mut [i64; 16]) -> usize
         }
     }
     k
+}
+
+// Whether the numbers stop before the m-th: 18, which is looked for before the ranges are, as it comes before 9.
+pub(crate) fn has_fraction(numbers: &[i64], m: usize) -> bool
+    ensures { λ b. ⌜ b ≡ ltb (length (now (numbers .entry))) m ⌝ }
+{
+    numbers.len() < m
 }
 
 // The ends of a range, low before high, from a place on.

@@ -1,6 +1,7 @@
 -- `record_of` meets its contract: the cells passed are as the bytes have them.
 use Prim.Native.Nat.{_-_, _≤_}
 use mathlib.Core.Logic.{⊎-elim}
+use mathlib.Core.Path.{sym, _∙_}
 use native.Mathlib.Omega.{arith}
 use borrow.Author.Needs.{needs}
 use Rattle.motmotdivan.specs.Views.{cellNumber}
@@ -18,41 +19,24 @@ abbrev μ-loop : tie.MeasureT-loop
 loop-holds : tie.Need-loop-holds Inv-loop μ-loop
 loop-holds c = (omega arith, filled-none _ _)
 
-mul-bits-at : tie.Need-mul-bits-at Inv-loop μ-loop
-mul-bits-at c = search needs
-
 bits-at-requires : tie.Need-bits-at-requires Inv-loop μ-loop
 bits-at-requires c κs = omega arith
 
 float-from-bits-cells : tie.Need-float-from-bits-cells Inv-loop μ-loop
-float-from-bits-cells c = pattern-number (c .before .bits-at .result) (c .if1 .taken)
-
-mul-cells : tie.Need-mul-cells Inv-loop μ-loop
-mul-cells c = search needs
-
-array-write-cells : tie.Need-array-write-cells Inv-loop μ-loop
-array-write-cells c = search needs
-
-array-write-finite : tie.Need-array-write-finite Inv-loop μ-loop
-array-write-finite c = search needs
-
-add-k : tie.Need-add-k Inv-loop μ-loop
-add-k c = search needs
-
-loop-less : tie.Need-loop-less Inv-loop μ-loop
-loop-less c = omega arith
+float-from-bits-cells c = pattern-number (c .before .before .bits-at .result) (sym (c .before .is-finite .ensures) ∙ c .if1 .taken)
 
 loop-again : tie.Need-loop-again Inv-loop μ-loop
 loop-again c =
-    let a = c .before in
+    let t = c .before in
+    let a = t .before in
     let l = a .before .before in
     let s = l .before .before .args .s .now in
     let p = a .bits-at .result in
     let f = l .loop .inv .1 in (
       omega arith,
       ⊎-elim
-          (λ w. rw (w .1, w .2) (filled-more s (l .loop .cells) (l .loop .finite) (l .loop .k) p f (a .bits-at .ensures) (omega arith) (pattern-finite p (w .0 .taken))))
-          (λ w. rw (w .1, w .2) (filled-over s (l .loop .cells) (l .loop .finite) (l .loop .k) p f (a .bits-at .ensures) (pattern-not-finite p (w .0 .left))))
+          (λ w. rw (w .1, w .2) (filled-more s (l .loop .cells) (l .loop .finite) (l .loop .k) p f (a .bits-at .ensures) (omega arith) (pattern-finite p (sym (t .is-finite .ensures) ∙ w .0 .taken))))
+          (λ w. rw (w .1, w .2) (filled-over s (l .loop .cells) (l .loop .finite) (l .loop .k) p f (a .bits-at .ensures) (pattern-not-finite p (sym (t .is-finite .ensures) ∙ w .0 .left))))
           (c .if1 .came),
     )
 
@@ -67,13 +51,14 @@ record-of-spec =
     Inv-loop
     μ-loop
     loop-holds
-    mul-bits-at
+    (λ c. search needs)
     bits-at-requires
+    (λ c κs. search needs)
     float-from-bits-cells
-    mul-cells
-    array-write-cells
-    array-write-finite
-    add-k
-    loop-less
+    (λ c. search needs)
+    (λ c. search needs)
+    (λ c. search needs)
+    (λ c. search needs)
+    (λ c. omega arith)
     loop-again
     returns)
