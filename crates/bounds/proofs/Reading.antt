@@ -2,7 +2,7 @@
 use mathlib.Core.Path.{_≡_, refl, sym, ap, subst, _∙_}
 use mathlib.Core.Bool.{Bool, true, false, cond}
 use mathlib.Core.List.{List}
-use Prim.Native.Nat.{ℕ, _+_, _-_, _*_, _≤_, _<_}
+use Prim.Native.Nat.{ℕ, _+_, _-_, _*_, _<_}
 use native.Mathlib.Omega.{arith}
 use lib.IntN.{ℤ}
 use lib.ListN.{length}
@@ -21,12 +21,12 @@ use Rattle.encoding.proofs.Entries.{opOr, Lent, lent, lent-is, lent-known}
 use Rattle.encoding.proofs.Sequences.{found}
 use Rattle.rules.specs.declared.Refusal.{Refusal}
 use Rattle.rules.specs.declared.Refusal.the-variants.{NoCodelist, Divisor, Overflow}
-use Rattle.rules.specs.Run.{rowOf, invertsZero, bentIn, alwaysBent, factorLines, linesOf}
+use Rattle.rules.specs.Run.{rowOf, invertsZero, bentIn, alwaysBent, linesOf}
 use Rattle.rules.specs.Rate.{refused, finished, rateOf}
 use Rattle.bounds.specs.declared.slopes.Slopes.{Slopes}
-use Rattle.bounds.specs.Table.{gradientAt, linesUpTo, Started, Worked}
+use Rattle.bounds.specs.Table.{linesUpTo, Worked}
 use Rattle.bounds.proofs.Answers.{no-codelist, or-no-codelist}
-use Rattle.bounds.proofs.Running.{Counted, Ran, Going, Ended, op, ran-start, ran-no-codelist, ran-divisor, ran-overflow, ran-more}
+use Rattle.bounds.proofs.Running.{Counted, Ran, Going, op, ran-no-codelist, ran-divisor, ran-overflow, ran-more}
 
 none-ratable : ratable empty ≡ false
 unfolding ratable empty

@@ -1,6 +1,5 @@
 // A codelist as 512 bytes at fixed offsets (docs/STATE.md): a load writes them, and `head` and `op_at` read them back, whatever bytes they are.
 ghost use mathlib.Core.Path.{_≡_};
-ghost use mathlib.Core.List.{[]};
 ghost use Prim.Native.Nat.{_+_, _*_, _≤_, _<_};
 ghost use lib.IntN.{natAbs};
 ghost use lib.ListN.{length, take, drop, replicate};

@@ -13,13 +13,12 @@ use Rattle.codelist.specs.declared.Codelist.{Codelist}
 use Rattle.codelist.proofs.Laws.{both-true, both-made}
 use Rattle.rules.specs.declared.Rating.{Rating}
 use Rattle.encoding.specs.Decode.{decoded, holdsCodelist}
-use Rattle.motmotdivan.specs.Doubles.{noWhole}
-use Rattle.motmotdivan.specs.Record.{numberAt, fraction, rangesOf}
+use Rattle.motmotdivan.specs.Record.{fraction, rangesOf}
 use Rattle.motmotdivan.specs.Calls.{answerOf}
-use Rattle.motmotdivan.specs.Views.{clamped, RatePlaced, refusedQuote, quoteOf}
+use Rattle.motmotdivan.specs.Views.{RatePlaced, refusedQuote, quoteOf}
 use Rattle.motmotdivan.proofs.Answers.{held, ten-given, eight-given, eighteen-given, rating-given}
 use Rattle.motmotdivan.proofs.Places.{rate-placed}
-use Rattle.motmotdivan.proofs.Reading.{Whole, all-read, first-fraction}
+use Rattle.motmotdivan.proofs.Reading.{all-read, first-fraction}
 use Rattle.motmotdivan.proofs.quote.quoted.Statement.{statement}
 use Rattle.motmotdivan.proofs.quote.quoted.Tie as tie
 
