@@ -1,6 +1,6 @@
 -- How each answer comes about: 10, 8, 18, or what rating gives. And what numbers and places there are.
 use Prim.Native.Nat.{ℕ, _≤_, _<_}
-use mathlib.Core.Bool.{Bool, true, false, cond, _&&_}
+use mathlib.Core.Bool.{Bool, true, false, cond, _&&_, true≢false}
 use mathlib.Core.List.{List, List·Memᴰ, List·Memᴰ·head, List·Memᴰ·tail}
 use mathlib.Core.Option.{Option, some, none}
 use mathlib.Core.Path.{_≡_, refl, sym, ap, subst, _∙_}
@@ -10,7 +10,7 @@ use lib.IntN.{ℤ}
 use lib.ListN.{length}
 use borrow.Author.Tests.{eq-eqb, eqb-true}
 use Rattle.codelist.specs.declared.Codelist.{Codelist}
-use Rattle.codelist.proofs.Laws.{both-true}
+use Rattle.codelist.proofs.Laws.{both-true, both-made}
 use Rattle.rules.specs.declared.Limits.{Limits}
 use Rattle.rules.specs.declared.Outcome as rating
 use Rattle.rules.specs.declared.Refusal as rules
@@ -31,8 +31,8 @@ pub record Fit (c : Codelist) (d x : List ℕ) (room : ℕ) : Type 0 where
   pub result : room ≡ 192
 
 pub data Came (d x : List ℕ) (room : ℕ) (o : Answer) : Type 0 where
-  no-codelist : o ≡ refusal 10 0 → Came d x room o
-  other-length : o ≡ refusal 8 0 → Came d x room o
+  no-codelist : decoded d ≡ none → o ≡ refusal 10 0 → Came d x room o
+  other-length : (c : Codelist) → decoded d ≡ some c → ¬ ((length x ≡ 128) × (room ≡ 192)) → o ≡ refusal 8 0 → Came d x room o
   by-fraction : (c : Codelist) → Fit c d x room → (a : ℕ) → rangesOf x (c .factors) ≡ fraction a → o ≡ refusal 18 a → Came d x room o
   by-rating : (c : Codelist) → Fit c d x room → (xs : List ℤ) → rangesOf x (c .factors) ≡ numbers xs → o ≡ answerOf (rateOf c xs) → Came d x room o
 
@@ -55,10 +55,11 @@ module _ (d x : List ℕ) (room : ℕ) where
       lengths c e true h =
           let b = both-true (eqb (length x) 128) (eqb room 192) h in
           ranges c (record { held = e; ranges = eqb-true (length x) 128 (b .0); result = eqb-true room 192 (b .1) }) (rangesOf x (c .factors)) refl
-      lengths c e false h = other-length refl
+      lengths c e false h =
+          other-length c e (λ p. true≢false (sym (both-made _ _ (eq-eqb (length x) 128 (p .0)) (eq-eqb room 192 (p .1))) ∙ h)) refl
 
       desk : (o : Option Codelist) → decoded d ≡ o → Came d x room (onCodelist o x room)
-      desk none e = no-codelist refl
+      desk none e = no-codelist e refl
       desk (some c) e = lengths c e (eqb (length x) 128 && eqb room 192) refl
 
 -- a number, and the place beside it
@@ -103,8 +104,8 @@ pub listed : (d x : List ℕ) (room : ℕ) → ListedAnswer (rateAnswer d x room
 listed d x room = go (came d x room)
   where
     go : {o : Answer} → Came d x room o → ListedAnswer o
-    go (no-codelist e) = subst ListedAnswer (sym e) (rate-listed rules.the-variants.NoCodelist (lit≤ tt))
-    go (other-length e) = subst ListedAnswer (sym e) (rate-listed rules.the-variants.RangeCount (lit≤ tt))
+    go (no-codelist n e) = subst ListedAnswer (sym e) (rate-listed rules.the-variants.NoCodelist (lit≤ tt))
+    go (other-length c n o e) = subst ListedAnswer (sym e) (rate-listed rules.the-variants.RangeCount (lit≤ tt))
     go (by-fraction c f a r e) =
         let w = fraction-within x 0 (c .factors) a r in
         let h = held d c (f .held) .few in

@@ -7,7 +7,7 @@ use native.Mathlib.Decide.{ℕ-discrete}
 use native.Mathlib.Omega.{arith}
 use lib.IntN.{ℤ}
 use lib.Ieee.{binary64, ofBits}
-use lib.ListN.{take, drop}
+use lib.ListN.{length, take, drop}
 use lib.Seq.{take-take}
 use Rattle.encoding.specs.Bytes.{numberOf}
 use Rattle.motmotdivan.specs.Doubles.{Number, whole, noWhole, wholeOf}
@@ -103,6 +103,21 @@ lowest-read b s (suc m) k f = go (numberAt b (2 * s)) (numberAt b (2 * s + 1)) r
 
 pub fraction-within : (b : List ℕ) (s m k : ℕ) → readFrom b s m ≡ fraction k → (s + 1 ≤ k) × (k ≤ s + m)
 fraction-within b s m k e = let f = lowest-found b s m k e in (omega (arith, f .number, f .inside), omega (arith, f .number, f .inside))
+
+-- ---- two numbers for each factor
+one-more : {X : Type 0} {xs : List ℤ} {k : ℕ} → fraction k ≡ numbers xs → X
+one-more e = not-numbers (sym e)
+
+pub read-many : (b : List ℕ) (s m : ℕ) (xs : List ℤ) → readFrom b s m ≡ numbers xs → length xs ≡ 2 * m
+unfolding readFrom
+read-many b s zero xs e = let p : _≡_ {A = List ℤ} [] xs = cc in sym (ap length p)
+read-many b s (suc m) xs e = go (numberAt b (2 * s)) (numberAt b (2 * s + 1)) (readFrom b (s + 1) m) (read-many b (s + 1) m) e
+  where
+    go : (x y : Number) (r : Read) → ((ys : List ℤ) → r ≡ numbers ys → length ys ≡ 2 * m) → before (s + 1) x y r ≡ numbers xs → length xs ≡ 2 * suc m
+    go (whole l) (whole h) (numbers ys) more t = let p : l ∷ h ∷ ys ≡ xs = cc in sym (ap length p) ∙ omega (arith, more ys refl)
+    go (whole l) (whole h) (fraction k) more t = one-more t
+    go (whole l) noWhole r more t = one-more t
+    go noWhole y r more t = one-more t
 
 -- ---- doubles past the last factor
 early : (b : List ℕ) (m n : ℕ) → m + 8 ≤ n → take 8 (drop m (take n b)) ≡ take 8 (drop m b)

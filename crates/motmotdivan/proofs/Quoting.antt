@@ -1,6 +1,7 @@
 -- What is promised of the two calls: `quoting`.
 use Prim.Native.Nat.{ℕ, _+_, _-_, _*_, _%_, _≤_, _<_}
 use mathlib.Core.List.{List, List·Memᴰ}
+use mathlib.Core.Option.{none, some}
 use mathlib.Core.Path.{_≡_, refl, sym, ap, subst, _∙_}
 use native.Mathlib.Omega.{arith}
 use lib.IntN.{ℤ, pos}
@@ -8,25 +9,28 @@ use lib.Ieee.{binary64, ofBits, ofInt, toBits}
 use lib.ListN.{length, getD, take, replicate}
 use borrow.Author.Tests.{eq-eqb, ne-eqb}
 use Rattle.codelist.specs.declared.Codelist.{Codelist}
+use Rattle.codelist.proofs.Ratable.{well-formed-ratable}
 use Rattle.rules.specs.declared.Limits.{Limits}
 use Rattle.rules.specs.declared.Outcome as rating
 use Rattle.rules.specs.declared.Refusal as rules
 use Rattle.rules.specs.Rate as Rate
 use Rattle.rules.specs.Rate.{rated, rateOf}
+use Rattle.rules.specs.Refused.{RefusedFor}
 use Rattle.rules.proofs.Sound.{sound}
 use Rattle.engine.specs.declared.Refusal as engine
 use Rattle.engine.specs.Engine.{outcomeOf, ratedOf}
 use Rattle.engine.proofs.Demands.{demands}
 use Rattle.encoding.specs.Bytes.{lowFirst}
+use Rattle.encoding.proofs.Decoded.{decodes-exactly}
 use Rattle.motmotdivan.specs.Doubles.{doubleOf}
 use Rattle.motmotdivan.specs.Record.{patternAt, numbers, fraction, rangesOf, resultNumbers, resultRecord}
 use Rattle.motmotdivan.specs.Calls.{codeOf, quotedRateNumbers, Answer, result, refusal, answered, answerOf, onRead}
 use Rattle.motmotdivan.specs.Calls.{answerCode, answerRecord, rateAnswer, rateCode, rateRecord}
-use Rattle.motmotdivan.specs.Quoting.{Exactly, Given, LowestFraction, Coded, engineCode, SoundQuote, Quoting}
+use Rattle.motmotdivan.specs.Quoting.{Exactly, LeftByLoad, Given, OtherLength, LowestFraction, Coded, engineCode, SoundQuote, Quoting}
 use Rattle.motmotdivan.proofs.Cases.{Fit, Came, no-codelist, other-length, by-fraction, by-rating, read-answer, came, ListedAnswer, listed}
 use Rattle.motmotdivan.proofs.Exact.{read-sound, read-complete, double-exactly}
 use Rattle.motmotdivan.proofs.Loading.{coded, elsewhere, refused-code, zero-sound, zero-complete, in-list, kept, left-sound, left-complete}
-use Rattle.motmotdivan.proofs.Lowest.{From, lowest-found, lowest-read, same-read}
+use Rattle.motmotdivan.proofs.Lowest.{From, lowest-found, lowest-read, read-many, same-read}
 use Rattle.motmotdivan.proofs.Results.{no-result}
 use Rattle.motmotdivan.proofs.Small.{small-result, many-result}
 
@@ -69,6 +73,33 @@ no-fraction : (o : rating.Outcome) (k : Limits) (a : ℕ) → ¬ (answered o k �
 no-fraction rating.the-variants.Rated k a e = not-result e
 no-fraction (rating.the-variants.Refused q) k a e = let n : Rate.numberOf q ≡ 18 = cc in no-eighteen q n
 
+-- of what a desk holds it gives neither 10 nor 8: the codelist is well formed, and there are two numbers for each factor
+module _ (c : Codelist) (d x : List ℕ) (room : ℕ) (f : Fit c d x room) (xs : List ℤ) (n : rangesOf x (c .factors) ≡ numbers xs) where
+  listed-for : (q : rules.Refusal) → rateOf c xs .outcome ≡ rating.the-variants.Refused q → RefusedFor c xs q
+  unfolding ratedOf
+  listed-for q e = demands .rate-refused-listed (record { codelist = c }) xs q .0 (ap outcomeOf e)
+
+  no-ten : (q : rules.Refusal) → RefusedFor c xs q → ¬ (Rate.numberOf q ≡ 10)
+  no-ten rules.the-variants.NoCodelist h e = h (well-formed-ratable (decodes-exactly .where-encoded d c .0 (f .held) .0))
+  no-ten rules.the-variants.RangeCount h e = omega arith
+  no-ten (rules.the-variants.BadRange a) h e = omega arith
+  no-ten (rules.the-variants.Divisor k) h e = omega arith
+  no-ten (rules.the-variants.Overflow k) h e = omega arith
+
+  no-eight : (q : rules.Refusal) → RefusedFor c xs q → ¬ (Rate.numberOf q ≡ 8)
+  no-eight rules.the-variants.NoCodelist h e = omega arith
+  no-eight rules.the-variants.RangeCount h e = h .1 (read-many x 0 (c .factors) xs n)
+  no-eight (rules.the-variants.BadRange a) h e = omega arith
+  no-eight (rules.the-variants.Divisor k) h e = omega arith
+  no-eight (rules.the-variants.Overflow k) h e = omega arith
+
+  neither : (m p : ℕ) → ((q : rules.Refusal) → RefusedFor c xs q → ¬ (Rate.numberOf q ≡ m)) → ¬ (answerOf (rateOf c xs) ≡ refusal m p)
+  neither m p h = go (rateOf c xs .outcome) refl
+    where
+      go : (o : rating.Outcome) → rateOf c xs .outcome ≡ o → ¬ (answered o (rateOf c xs .limits) ≡ refusal m p)
+      go rating.the-variants.Rated e t = not-result t
+      go (rating.the-variants.Refused q) e t = let k : Rate.numberOf q ≡ m = cc in h q (listed-for q e) k
+
 -- an accepted rating
 record Accepted (d x : List ℕ) (room : ℕ) (l : Limits) : Type 0 where
   codelist : Codelist
@@ -81,8 +112,8 @@ accepted : (d x : List ℕ) (room : ℕ) (l : Limits) → rateAnswer d x room �
 accepted d x room l h = go (came d x room) h
   where
     go : {o : Answer} → Came d x room o → o ≡ result l → Accepted d x room l
-    go (no-codelist e) t = not-result (sym t ∙ e)
-    go (other-length e) t = not-result (sym t ∙ e)
+    go (no-codelist n e) t = not-result (sym t ∙ e)
+    go (other-length c n o e) t = not-result (sym t ∙ e)
     go (by-fraction c f a r e) t = not-result (sym t ∙ e)
     go (by-rating c f xs r e) t =
         let w = rated-answer (rateOf c xs .outcome) (rateOf c xs .limits) l (sym e ∙ t) in
@@ -107,14 +138,55 @@ module _ (d x r : List ℕ) where
   record-of : (l : Limits) → Accepted d x (length r) l → rateAnswer d x (length r) ≡ result l → rateRecord d x r ≡ resultRecord l
   record-of l a e = record-in (a .fit .result) ∙ ap answerRecord e
 
+  -- ---- 10 and 8
+  ten-sound : rateCode d x r ≡ codeOf 10 0 → ¬ (LeftByLoad d)
+  unfolding rateCode
+  ten-sound e w = go (came d x (length r)) (one-refusal (rateAnswer d x (length r)) (listed d x (length r)) 10 0 (omega arith) (omega arith) e)
+    where
+      go : {o : Answer} → Came d x (length r) o → ¬ (o ≡ refusal 10 0)
+      go (no-codelist n e) t = let z : none ≡ some _ = sym n ∙ left-complete d w .1 in let k : _≡_ {A = ℕ} 0 1 = cc in omega arith
+      go (other-length c n o e) t = let n : _≡_ {A = ℕ} 8 10 = cc in omega arith
+      go (by-fraction c f a q e) t = let n : _≡_ {A = ℕ} 18 10 = cc in omega arith
+      go (by-rating c f xs q e) t = neither c d x (length r) f xs q 10 0 (no-ten c d x (length r) f xs q) (sym e ∙ t)
+
+  ten-complete : ¬ (LeftByLoad d) → rateCode d x r ≡ codeOf 10 0
+  unfolding rateCode
+  ten-complete h = go (came d x (length r))
+    where
+      go : {o : Answer} → Came d x (length r) o → answerCode o ≡ codeOf 10 0
+      go (no-codelist n e) = ap answerCode e
+      go (other-length c n o e) = absurd (h (left-sound d (c, n)))
+      go (by-fraction c f a q e) = absurd (h (left-sound d (c, f .held)))
+      go (by-rating c f xs q e) = absurd (h (left-sound d (c, f .held)))
+
+  eight-sound : rateCode d x r ≡ codeOf 8 0 → OtherLength d x r
+  unfolding rateCode
+  eight-sound e = go (came d x (length r)) (one-refusal (rateAnswer d x (length r)) (listed d x (length r)) 8 0 (omega arith) (omega arith) e)
+    where
+      go : {o : Answer} → Came d x (length r) o → o ≡ refusal 8 0 → OtherLength d x r
+      go (no-codelist n e) t = absurd (let n : _≡_ {A = ℕ} 10 8 = cc in omega arith)
+      go (other-length c n o e) t = record { codelist = c; held = n; other = o }
+      go (by-fraction c f a q e) t = absurd (let n : _≡_ {A = ℕ} 18 8 = cc in omega arith)
+      go (by-rating c f xs q e) t = absurd (neither c d x (length r) f xs q 8 0 (no-eight c d x (length r) f xs q) (sym e ∙ t))
+
+  eight-complete : OtherLength d x r → rateCode d x r ≡ codeOf 8 0
+  unfolding rateCode
+  eight-complete h = go (came d x (length r))
+    where
+      go : {o : Answer} → Came d x (length r) o → answerCode o ≡ codeOf 8 0
+      go (no-codelist n e) = absurd (let z : none ≡ some _ = sym n ∙ h .held in let k : _≡_ {A = ℕ} 0 1 = cc in omega arith)
+      go (other-length c n o e) = ap answerCode e
+      go (by-fraction c f a q e) = absurd (h .other (f .ranges, f .result))
+      go (by-rating c f xs q e) = absurd (h .other (f .ranges, f .result))
+
   -- ---- 18
   fraction-sound : (a : ℕ) → rateCode d x r ≡ codeOf 18 a → LowestFraction d x r a
   unfolding rateCode
   fraction-sound a e = go (came d x (length r)) (one-refusal (rateAnswer d x (length r)) (listed d x (length r)) 18 a (omega arith) (omega arith) e)
     where
       go : {o : Answer} → Came d x (length r) o → o ≡ refusal 18 a → LowestFraction d x r a
-      go (no-codelist e) t = absurd (let n : _≡_ {A = ℕ} 10 18 = cc in omega arith)
-      go (other-length e) t = absurd (let n : _≡_ {A = ℕ} 8 18 = cc in omega arith)
+      go (no-codelist n e) t = absurd (let n : _≡_ {A = ℕ} 10 18 = cc in omega arith)
+      go (other-length c n o e) t = absurd (let n : _≡_ {A = ℕ} 8 18 = cc in omega arith)
       go (by-rating c f xs q e) t = absurd (no-fraction (rateOf c xs .outcome) (rateOf c xs .limits) a (sym e ∙ t))
       go (by-fraction c f b q e) t =
           let n : b ≡ a = cc in
@@ -224,9 +296,11 @@ quoting = record {
   whole-exactly = λ p z. (read-sound (ofBits binary64 p) z, read-complete (ofBits binary64 p) z);
   exact-result = exact;
   plus-zero = refl;
+  left-by-load = λ d. (left-sound d, left-complete d);
+  ten = λ d x r. (ten-sound d x r, ten-complete d x r);
+  eight = λ d x r. (eight-sound d x r, eight-complete d x r);
   eighteen = λ d x r a. (fraction-sound d x r a, fraction-complete d x r a);
   past-last = past;
-  left-by-load = λ d. (left-sound d, left-complete d);
   load-accepted = λ d s. (zero-sound d s, λ p. zero-complete d s (p .0) (p .1));
   load-refused = refused-code;
   load-elsewhere = elsewhere;

@@ -51,6 +51,12 @@ pub record Given (c : Codelist) (d x r : List ℕ) : Type 0 where
   pub ranges : length x ≡ 128
   pub result : length r ≡ 192
 
+-- the desk holds a codelist, and a record has another length
+pub record OtherLength (d x r : List ℕ) : Type 0 where
+  pub codelist : Codelist
+  pub held : decoded d ≡ some codelist
+  pub other : ¬ ((length x ≡ 128) × (length r ≡ 192))
+
 -- an end of factor a, counted from 1, is no whole number
 abbrev pub HasFraction : List ℕ → ℕ → Type 0
 HasFraction x a = (numberAt x (2 * (a - 1)) ≡ noWhole) ⊎ (numberAt x (2 * (a - 1) + 1) ≡ noWhole)
@@ -95,13 +101,16 @@ pub record Quoting : Type 0 where
   pub exact-result : (d x r : List ℕ) (l : Limits) → rateAnswer d x (length r) ≡ result l → (k : ℕ) → k < 24
       → Exactly (ofBits binary64 (patternAt (rateRecord d x r) k)) (getD (resultNumbers l) k (pos 0))
   pub plus-zero : doubleOf (pos 0) ≡ replicate 8 0
+  -- "desk bytes that no accepted load could have left": those that are not decoded
+  pub left-by-load : (d : List ℕ) → ((c : Codelist) × (decoded d ≡ some c)) ↔ LeftByLoad d
+  -- 10 is given exactly where no accepted load could have left the desk, and 8 exactly where one could have, and a record has another length
+  pub ten : (d x r : List ℕ) → (rateCode d x r ≡ codeOf 10 0) ↔ (¬ (LeftByLoad d))
+  pub eight : (d x r : List ℕ) → (rateCode d x r ≡ codeOf 8 0) ↔ OtherLength d x r
   -- 18 is given exactly at the lowest factor with an end that is no whole number
   pub eighteen : (d x r : List ℕ) (a : ℕ) → (rateCode d x r ≡ codeOf 18 a) ↔ LowestFraction d x r a
   -- "those past the last factor are ignored"
   pub past-last : (c : Codelist) (d x y r : List ℕ) → Given c d x r → length y ≡ 128 → take (16 * c .factors) x ≡ take (16 * c .factors) y
       → (rateCode d x r ≡ rateCode d y r) × (rateRecord d x r ≡ rateRecord d y r)
-  -- "desk bytes that no accepted load could have left": those that are not decoded
-  pub left-by-load : (d : List ℕ) → ((c : Codelist) × (decoded d ≡ some c)) ↔ LeftByLoad d
   -- 0 only where accepted, and each refusal by its number and place
   pub load-accepted : (d s : List ℕ) → (loadCode d s ≡ 0) ↔ ((length d ≡ 512) × (Load.loadOf s .outcome ≡ loading.the-variants.Accepted))
   pub load-refused : (d s : List ℕ) (r : loading-refusal.Refusal) → length d ≡ 512 → Load.loadOf s .outcome ≡ loading.the-variants.Refused r
