@@ -35,13 +35,13 @@ number-halves s at h =
 
 -- Eight bytes as the code reads them
 pub number-eight : (s : List ℕ) (at : ℕ) → at + 8 ≤ length s → numberOf (take 8 (drop at s))
-    ≡ getD s at 0 + 256 * (getD s (at + 1) 0 + 256 * (getD s (at + 2) 0 + 256 * getD s (at + 3) 0))
-    + 4_294_967_296 * (getD s (at + 4) 0 + 256 * (getD s (at + 5) 0 + 256 * (getD s (at + 6) 0 + 256 * getD s (at + 7) 0)))
+    ≡ getD s at 0 + 256 * getD s (at + 1) 0 + 65_536 * getD s (at + 2) 0 + 16_777_216 * getD s (at + 3) 0 + 4_294_967_296 * getD s (at + 4) 0
+    + 1_099_511_627_776 * getD s (at + 5) 0 + 281_474_976_710_656 * getD s (at + 6) 0 + 72_057_594_037_927_936 * getD s (at + 7) 0
 number-eight s at h =
     let a : at + 4 + 1 ≡ at + 5 = omega arith in
     let b : at + 4 + 2 ≡ at + 6 = omega arith in
     let c : at + 4 + 3 ≡ at + 7 = omega arith in
-    number-halves s at h ∙ rw (number-four s at (omega arith), number-four s (at + 4) (omega arith), a, b, c)
+    number-halves s at h ∙ rw (number-four s at (omega arith), number-four s (at + 4) (omega arith), a, b, c) (omega arith)
 
 -- Which patterns are finite: those whose exponent's field is not all ones
 odd-finite : (d : ℕ) (s : Bool) (n k l : ℕ) → T (finite (odd d s n k l))

@@ -26,17 +26,17 @@ pub double-length : (z : ℤ) → length (doubleOf z) ≡ 8
 unfolding doubleOf
 double-length z = low-first-length 8 (toBits binary64 (ofInt binary64 z))
 
-pub doubles-length : (zs : List ℤ) → length (doublesOf zs) ≡ 8 * length zs
+doubles-length : (zs : List ℤ) → length (doublesOf zs) ≡ 8 * length zs
 unfolding doublesOf
 doubles-length [] = refl
 doubles-length (z ∷ zs) = length-append (doubleOf z) (doublesOf zs) ∙ omega (arith, double-length z, doubles-length zs)
 
-pub doubles-append : (xs ys : List ℤ) → doublesOf (xs ++ ys) ≡ doublesOf xs ++ doublesOf ys
+doubles-append : (xs ys : List ℤ) → doublesOf (xs ++ ys) ≡ doublesOf xs ++ doublesOf ys
 unfolding doublesOf
 doubles-append [] ys = refl
 doubles-append (x ∷ xs) ys = ap (λ (t : List ℕ). doubleOf x ++ t) (doubles-append xs ys) ∙ sym (append-assoc (doubleOf x) (doublesOf xs) (doublesOf ys))
 
-pub double-alone : (z : ℤ) → doublesOf (z ∷ []) ≡ doubleOf z
+double-alone : (z : ℤ) → doublesOf (z ∷ []) ≡ doubleOf z
 unfolding doublesOf
 double-alone z = append-nil (doubleOf z)
 
@@ -84,22 +84,22 @@ front-more zs ys s at f e h =
           ∙ ap (λ (t : List ℕ). t ++ vs) w ∙ sym (doubles-append zs ys);
     }
 
-pub front-whole : (zs : List ℤ) (s : List ℕ) → Front zs s → length zs ≡ 24 → s ≡ doublesOf zs
+front-whole : (zs : List ℤ) (s : List ℕ) → Front zs s → length zs ≡ 24 → s ≡ doublesOf zs
 front-whole zs s f h =
     sym (take-all (8 * length zs) s (omega (arith, f .long))) ∙ f .front
 
-pub ends-length : (rs : List Range) → length (endsOf rs) ≡ 2 * length rs
+ends-length : (rs : List Range) → length (endsOf rs) ≡ 2 * length rs
 unfolding endsOf
 ends-length [] = refl
 ends-length (r ∷ rs) = omega (arith, ends-length rs)
 
-pub ends-append : (xs ys : List Range) → endsOf (xs ++ ys) ≡ endsOf xs ++ endsOf ys
+ends-append : (xs ys : List Range) → endsOf (xs ++ ys) ≡ endsOf xs ++ endsOf ys
 unfolding endsOf
 ends-append [] ys = refl
 ends-append (x ∷ xs) ys = ap (λ (t : List ℤ). x .low ∷ x .high ∷ t) (ends-append xs ys)
 
 -- The value and the slopes, the first k of them
-pub slopes-length : (v : Range) (g : List Range) → length (endsOf (v ∷ []) ++ endsOf g) ≡ 2 + 2 * length g
+slopes-length : (v : Range) (g : List Range) → length (endsOf (v ∷ []) ++ endsOf g) ≡ 2 + 2 * length g
 slopes-length v g = length-append (endsOf (v ∷ [])) (endsOf g) ∙ omega (arith, ends-length (v ∷ []), ends-length g)
 
 pub front-slope : (v : Range) (g : List Range) (k : ℕ) (d : Range) (s : List ℕ) → k < length g → k < 8

@@ -14,6 +14,7 @@ pub(crate) const RECORD_LENGTH: u64 = 8;
 
 const FRACTION: u64 = 18;
 
+// A byte as a number.
 pub(crate) fn wide(x: u8) -> u64
     ensures { λ r. ⌜ r ≡ x ⌝ }
     ensures { λ r. ⌜ r < 256 ⌝ }

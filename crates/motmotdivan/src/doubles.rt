@@ -18,7 +18,8 @@ pub enum Whole {
     Not,
 }
 
-// A finite double. From 2 ^ 53 on each is a whole number; below, a whole number is its own whole part, and minus zero is equal to 0.
+// A finite double. One beyond 64 bits, from 2 ^ 63 on, and every one from 2 ^ 53 on is a whole number; below, a whole number is its own whole part,
+// and minus zero is equal to 0.
 fn whole_of(x: f64) -> Whole
     requires { ⌜ T (finite x) ⌝ }
     ensures { λ r. ⌜ r ≡ clamped (wholeOf x) ⌝ }
@@ -53,16 +54,19 @@ pub(crate) fn number_of(x: f64, known: bool) -> Whole
     Whole::Not
 }
 
-// The pattern in the eight bytes from a place on, the lowest first.
+// The pattern in the eight bytes from a place on, the lowest first. As one flat sum it is compiled to one load.
 pub(crate) fn bits_at(s: &[u8], at: usize) -> u64
     requires { ⌜ at + 8 ≤ length (now s) ⌝ }
     ensures { λ r. ⌜ r ≡ numberOf (take 8 (drop at (now (s .entry)))) ⌝ }
 {
-    let low = wide(s[at])
-        + 256 * (wide(s[at + 1]) + 256 * (wide(s[at + 2]) + 256 * wide(s[at + 3])));
-    let high = wide(s[at + 4])
-        + 256 * (wide(s[at + 5]) + 256 * (wide(s[at + 6]) + 256 * wide(s[at + 7])));
-    low + 4294967296 * high
+    wide(s[at])
+        + 0x100 * wide(s[at + 1])
+        + 0x1_0000 * wide(s[at + 2])
+        + 0x100_0000 * wide(s[at + 3])
+        + 0x1_0000_0000 * wide(s[at + 4])
+        + 0x100_0000_0000 * wide(s[at + 5])
+        + 0x1_0000_0000_0000 * wide(s[at + 6])
+        + 0x100_0000_0000_0000 * wide(s[at + 7])
 }
 
 // Whether a pattern is that of a finite double: its exponent is not all ones. Zeros of both signs are.
