@@ -10,7 +10,7 @@ use engine::Refusal;
 // 10, of an empty desk; 8, of a record of another length; 18, of a fraction: their places are 0, 0 and a factor.
 pub(crate) const NO_CODELIST: u64 = 10;
 
-pub(crate) const RECORD_LENGTH: u64 = 8;
+pub(crate) const OTHER_LENGTH: u64 = 8;
 
 const FRACTION: u64 = 18;
 

@@ -68,10 +68,10 @@ pub(crate) fn quoted(state: &[u8], ranges: &[u8], room: usize) -> Quote
         return refuse(codes::NO_CODELIST);
     }
     if ranges.len() != record::RANGES_LENGTH {
-        return refuse_held(state, codes::RECORD_LENGTH);
+        return refuse_held(state, codes::OTHER_LENGTH);
     }
     if room != record::RESULT_LENGTH {
-        return refuse_held(state, codes::RECORD_LENGTH);
+        return refuse_held(state, codes::OTHER_LENGTH);
     }
     let m = 2 * n;
     let mut values = [0i64; 16];
