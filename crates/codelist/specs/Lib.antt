@@ -8,4 +8,5 @@ pub mod Read
 pub mod Load
 pub mod Accepted
 pub mod Refused
+pub mod Exchange
 pub mod Views
