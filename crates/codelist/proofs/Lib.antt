@@ -14,3 +14,4 @@ pub mod Resumed
 pub mod Classified
 pub mod Accepted
 pub mod Refused
+pub mod OneByOne
