@@ -30,6 +30,7 @@ use Rattle.rules.proofs.Along.{at-turn, Along, along-last, along-run, a
 -- the codelist is ratable, there is a good range per factor, and the limits are those of the last line of a run that went through
 pub record Accepted (c : Codelist) (xs : List ℤ) (l : Limits) : Type 0 where
   pub codelist : Ratable c
+  pub numbers : length xs ≡ 2 * c .factors
   pub count : length (pairs xs) ≡ c .factors
   pub good : firstBad 1 (pairs xs) ≡ 0
   pub lines : List Line
@@ -56,7 +57,7 @@ unfolding rateRanges
 ranged c rs zero e = (refl, e)
 ranged c rs (suc a) e = absurd (not-rated e)
 
-through-to : (n : ℕ) (u : Lines) {l : Limits} → finished n u ≡ rated l → (ms : List Line) × ((u ≡ through ms) × (l ≡ limitsOf n (last ms)))
+pub through-to : (n : ℕ) (u : Lines) {l : Limits} → finished n u ≡ rated l → (ms : List Line) × ((u ≡ through ms) × (l ≡ limitsOf n (last ms)))
 through-to n (through ms) e = (ms, (refl, sym (ap (λ (a : Rating). a .limits) e)))
 through-to n (stopped r) e = absurd (not-rated e)
 
@@ -67,9 +68,11 @@ accepted c xs l e =
     let n = passed RangeCount (eqb (length xs) (2 * c .factors)) (w .1) in
     let g = ranged c (pairs xs) (firstBad 1 (pairs xs)) (n .1) in
     let t = through-to (c .factors) (linesOf c (pairs xs)) (g .1) in
+    let k = eqb-true (length xs) (2 * c .factors) (n .0) in
     record {
       codelist = decides c .0 (w .0);
-      count = pairs-length xs (c .factors) (eqb-true (length xs) (2 * c .factors) (n .0));
+      numbers = k;
+      count = pairs-length xs (c .factors) k;
       good = g .0;
       lines = t .0;
       ran = t .1 .0;

@@ -21,10 +21,10 @@ use Rattle.rules.proofs.SetTests.{apart-comm}
 abbrev S : Symmetry
 S = laws .symmetry
 
-union-comm : (s t : ℕ) → s ∪ t ≡ t ∪ s
+pub union-comm : (s t : ℕ) → s ∪ t ≡ t ∪ s
 union-comm = or-comm
 
-sum-exchanged : (e f : Formula) (b c : ℕ) → sticky (spectrumOfSum e b f c) ≡ sticky (spectrumOfSum f c e b)
+pub sum-exchanged : (e f : Formula) (b c : ℕ) → sticky (spectrumOfSum e b f c) ≡ sticky (spectrumOfSum f c e b)
 sum-exchanged e f b c =
     rw (
       apart-comm b c,

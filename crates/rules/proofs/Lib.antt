@@ -45,3 +45,7 @@ pub mod Half
 pub mod Exchanged
 pub mod SharperCross
 pub mod Sharper
+-- specs/Exchange and specs/Isotone: swapped references, and ranges inside ranges
+pub mod Exchange
+pub mod NarrowerRows
+pub mod Isotone

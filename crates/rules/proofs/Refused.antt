@@ -44,7 +44,7 @@ module _ (c : Codelist) (xs : List ℤ) where
   good-ranges t = rw (pairs-length xs (c .factors) (t .count)) (from-zero (t .good))
 
   -- the ranges are looked at
-  counted : Ratable c → length xs ≡ 2 * c .factors → rateOf c xs ≡ rateRanges c (pairs xs) (firstBad 1 (pairs xs))
+  pub counted : Ratable c → length xs ≡ 2 * c .factors → rateOf c xs ≡ rateRanges c (pairs xs) (firstBad 1 (pairs xs))
   unfolding rateOf
   counted w n = let f = ratable-iff .1 w in let g = count-iff .1 n in rw (f, g)
 

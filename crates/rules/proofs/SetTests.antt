@@ -47,13 +47,13 @@ disjoint-apart s t p q d =
     digit-one : (x : ℕ) → x ≡ 1 → T (eqb x 1)
     digit-one x e = true-T (eq-eqb x 1 e)
 
+pub swapped : (a b c : Bool) → (a && (b && c)) ≡ (b && (a && c))
+swapped true b c = refl
+swapped false b c = sym (and-false b)
+
 pub apart-comm : (s t : ℕ) → apart s t ≡ apart t s
 unfolding apart
 apart-comm s t = rw (and-comm s t) (swapped (not (eqb s none)) (not (eqb t none)) (eqb (bitAnd t s) none))
-  where
-    swapped : (a b c : Bool) → (a && (b && c)) ≡ (b && (a && c))
-    swapped true b c = refl
-    swapped false b c = sym (and-false b)
 
 -- ---- sets of one
 -- the digit of 2^(j + 1 + a) at a

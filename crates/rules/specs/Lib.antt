@@ -14,4 +14,6 @@ pub mod Sharper
 pub mod SameSets
 pub mod Years
 pub mod Sisters
+pub mod Exchange
+pub mod Isotone
 pub mod Figures
