@@ -15,3 +15,6 @@ pub mod Classified
 pub mod Accepted
 pub mod Refused
 pub mod OneByOne
+pub mod WholeLines
+pub mod ExchangedLines
+pub mod Exchange
