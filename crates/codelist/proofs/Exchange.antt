@@ -9,6 +9,7 @@ use native.Mathlib.Omega.{arith}
 use lib.Dec.{leb}
 use lib.ListN.{length, replicate, length-append}
 use Rattle.codelist.specs.declared.loading.Checked.{Checked}
+use Rattle.codelist.specs.declared.Codelist.{Codelist}
 use Rattle.codelist.specs.declared.Entry.{Entry}
 use Rattle.codelist.specs.declared.Loaded.{Loaded}
 use Rattle.codelist.specs.declared.Numeral.{Numeral}
@@ -34,13 +35,13 @@ same-ops : (xs : List Entry) → OneByOne ExchangedEntry xs xs
 same-ops [] = none
 same-ops (x ∷ xs) = more (kept (x .op)) (same-ops xs)
 
-same-loaded : (x : Loaded) → LoadedAlike x x
-same-loaded x = record {
-  outcome = refl;
-  codelist = record { factors = refl; count = refl; year = refl; ops = same-ops (x .codelist .ops) };
-}
+pub same-codelist : (c : Codelist) → Exchanged c c
+same-codelist c = record { factors = refl; count = refl; year = refl; ops = same-ops (c .ops) }
 
-codelist-alike : (y : Year) (n : ℕ) {xs ys : List Entry} → OneByOne ExchangedEntry xs ys → Exchanged (codelistOf y n xs) (codelistOf y n ys)
+same-loaded : (x : Loaded) → LoadedAlike x x
+same-loaded x = record { outcome = refl; codelist = same-codelist (x .codelist) }
+
+pub codelist-alike : (y : Year) (n : ℕ) {xs ys : List Entry} → OneByOne ExchangedEntry xs ys → Exchanged (codelistOf y n xs) (codelistOf y n ys)
 unfolding codelistOf
 codelist-alike y n {xs} {ys} h =
     let e = each-length ExchangedEntry h in
