@@ -1,2 +1,4 @@
 pub mod Demands
 pub mod Validity
+pub mod Exchange
+pub mod Isotone
