@@ -46,7 +46,7 @@ use Rattle.bisection.proofs.Numbered.{numbered, table}
 use Rattle.bisection.proofs.Classified.{run, refused-complete, Class, cut, turned-down, classify}
 
 -- an accepted answer is no refusal
-not-both : {A : Type 0} {r : Refusal} → Accepted ≡ Refused r → A
+pub not-both : {A : Type 0} {r : Refusal} → Accepted ≡ Refused r → A
 not-both e = let z : _≡_ {A = ℕ} 0 1 = cc in let f : ⊥ = omega arith in absurd f
 
 -- ---- as plain rating

@@ -37,10 +37,10 @@ module _ (a b c : ℤ) where
   greater-2 = ≤ℤ-trans (greater-right a b) (greater-left (greaterOf a b) c)
 
 module _ {a b q : ℤ} where
-  below-both : q ≤ℤ a → q ≤ℤ b → q ≤ℤ lesserOf a b
+  pub below-both : q ≤ℤ a → q ≤ℤ b → q ≤ℤ lesserOf a b
   below-both = lesser-any a b (λ z. q ≤ℤ z)
 
-  above-both : a ≤ℤ q → b ≤ℤ q → greaterOf a b ≤ℤ q
+  pub above-both : a ≤ℤ q → b ≤ℤ q → greaterOf a b ≤ℤ q
   above-both = greater-any a b (λ z. z ≤ℤ q)
 
 module _ (a b c : ℤ) where

@@ -12,6 +12,8 @@ pub mod Tested
 pub mod Classified
 pub mod Numbered
 pub mod CutSound
+pub mod Exchange
+pub mod Deeper
 pub mod Cutting
 pub mod Boxes
 pub mod Cuts

@@ -95,7 +95,7 @@ fine-plain {c} {rs} {l} y e = record {
 }
 
 -- two parts have the same sets
-fine-same : {c : Codelist} {rs ts : List Range} {l m : Limits} → Fine c rs l → Fine c ts m → SameSets l m
+pub fine-same : {c : Codelist} {rs ts : List Range} {l m : Limits} → Fine c rs l → Fine c ts m → SameSets l m
 fine-same {c} F G =
     let s = same-sets c (F .ranges) (G .ranges) (F .plain) (G .plain) (F .accepted) (G .accepted) in
     record {
