@@ -8,3 +8,4 @@ pub mod Counts
 pub mod Outcomes
 pub mod Income
 pub mod Promises
+pub mod Exchange

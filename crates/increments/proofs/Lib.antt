@@ -10,3 +10,5 @@ pub mod Refusals
 pub mod Rounded
 pub mod Exchanging
 pub mod Promises
+-- specs/Exchange
+pub mod Exchange
