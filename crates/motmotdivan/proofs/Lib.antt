@@ -13,3 +13,4 @@ pub mod Lowest
 pub mod Cases
 pub mod Loading
 pub mod Quoting
+pub mod Exchange

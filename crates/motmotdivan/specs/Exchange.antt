@@ -1,0 +1,22 @@
+-- 02, request 11: "Swapping the two references of any `add` or `mul` changes no field of any result, and no number or place of a refusal", of the two C
+-- functions. Statements; the proof is in proofs/Exchange.antt.
+use Prim.Native.Nat.{ℕ}
+use mathlib.Core.List.{List}
+use mathlib.Core.Path.{_≡_}
+use lib.ListN.{length}
+use Rattle.codelist.specs.Exchange.{Exchanged, ExchangedText}
+use Rattle.encoding.specs.Decode.{lentCodelist}
+use Rattle.motmotdivan.specs.Calls.{loadCode, loadState, rateCode, rateRecord}
+
+-- Two desks of one length whose codelists differ in swapped references alone: two that hold none, and one beside itself, too
+pub record ExchangedDesk (d f : List ℕ) : Type 0 where
+  pub long : length d ≡ length f
+  pub codelist : Exchanged (lentCodelist d) (lentCodelist f)
+
+pub record ExchangeC : Type 0 where
+  -- the same code, and such desks again
+  pub load-code : (d f s t : List ℕ) → ExchangedDesk d f → ExchangedText s t → loadCode d s ≡ loadCode f t
+  pub load-state : (d f s t : List ℕ) → ExchangedDesk d f → ExchangedText s t → ExchangedDesk (loadState d s) (loadState f t)
+  -- the same code, and the same bytes of the result
+  pub rate-code : (d f x r : List ℕ) → ExchangedDesk d f → rateCode d x r ≡ rateCode f x r
+  pub rate-record : (d f x r : List ℕ) → ExchangedDesk d f → rateRecord d x r ≡ rateRecord f x r
