@@ -16,3 +16,4 @@ pub mod Written
 pub mod Printed
 pub mod Engine
 pub mod Promises
+pub mod Exchange
