@@ -1,12 +1,12 @@
--- A deeper cut never widens a limit: `deeper-cut`. One level deeper, each part is plainly rated as before, or as its two halves, whose limits lie inside
+-- A deeper cut never widens a limit: `deeper-cut`, `cut-inside-plain`. One level deeper, each part is plainly rated as before, or as its two halves, whose limits lie inside
 -- its own (`ranges-isotone` of rules), so that their hull does. Assumes nothing.
 use mathlib.Core.Path.{_≡_, refl, sym, ap, subst, _∙_}
 use mathlib.Core.Bool.{Bool, true, false, cond}
 use mathlib.Core.List.{List}
 use Prim.Native.Nat.{ℕ, zero, suc, _+_, _-_}
 use native.Mathlib.Omega.{arith}
-use lib.IntN.{ℤ, pos, natAbs}
-use lib.Signed.{_≤ℤ_, leZ-yes, ≤ℤ-refl}
+use lib.IntN.{pos, natAbs}
+use lib.Signed.{≤ℤ-refl}
 use Rattle.algebra.proofs.Int.{≤ℤ-trans, natAbs-mono}
 use Rattle.codelist.specs.declared.Codelist.{Codelist}
 use Rattle.range.specs.declared.Range.{Range}
@@ -16,14 +16,12 @@ use Rattle.range.proofs.Valid.{true-T}
 use Rattle.rules.specs.declared.Limits.{Limits}
 use Rattle.rules.specs.Rate.{rated, pairs, rateRanges}
 use Rattle.rules.specs.Isotone.{NarrowerLimits}
-use Rattle.rules.proofs.Isotone.{InsideGood, ranges-isotone}
-use Rattle.engine.specs.declared.Engine.{Engine}
+use Rattle.rules.proofs.Isotone.{ranges-isotone}
 use Rattle.engine.proofs.Validity as Validity
 use Rattle.bisection.specs.declared.Bisected.{Bisected}
-use Rattle.bisection.specs.declared.Outcome.the-variants.{Accepted}
 use Rattle.bisection.specs.Cut.{hullLimits, hulled, narrow, lowerPart, upperPart, parts, answerOf, cutOf}
 use Rattle.bisection.specs.Promises.{PartOf, IsDepth}
-use Rattle.bisection.specs.Deeper.{NotWidened, DeeperCut}
+use Rattle.bisection.specs.Deeper.{NotWidened, DeeperCut, CutInsidePlain}
 use Rattle.bisection.proofs.Hulls.{About, below-both, above-both}
 use Rattle.bisection.proofs.Wider.{Wider, slope-hulled, hull-first, hull-second}
 use Rattle.bisection.proofs.Covers.{lower-part, upper-part}
@@ -146,10 +144,9 @@ deeper-by : (n d : ℕ) {c : Codelist} {rs : List Range} {l : Limits} → Ready 
 deeper-by zero d {c} {rs} {l} y r = subst (λ t. Rates t c rs l) (omega arith) r
 deeper-by (suc n) d {c} {rs} {l} y r = subst (λ t. Rates t c rs l) (omega arith) (next-deeper (n + d) y (deeper-by n d y r))
 
--- ---- the call
-deeper : (e : Engine) (xs : List ℤ) (k m : ℤ) → k ≤ℤ m → m ≤ℤ pos 6 → cutOf e xs k .outcome ≡ Accepted
-    → NotWidened e xs m (cutOf e xs k .limits)
-deeper e xs k m a b h = go (classify e xs k)
+-- A DEEPER CUT IS NOT WIDER
+pub deeper-cut : DeeperCut
+deeper-cut e xs k m a b h = go (classify e xs k)
   where
     go : Class e xs k → NotWidened e xs m (cutOf e xs k .limits)
     go (turned-down r f t) = not-both (sym h ∙ ap (λ (x : Bisected). x .outcome) f)
@@ -163,10 +160,7 @@ deeper e xs k m a b h = go (classify e xs k)
         let valid = parts-fine (natAbs m) (ready t) q .valid in
         rw f (record { accepted = ap (λ (x : Bisected). x .outcome) c; limits = rw c (wider-narrower valid (r .1 .1)) })
 
-pub deeper-cut : DeeperCut
-deeper-cut = record {
-  deeper = deeper;
-  than-plain = λ e xs m i h.
-      let z = cut-sound .depth-zero e xs in
-      rw (← (z .limits)) (deeper e xs (pos 0) m (i .0) (i .1) (z .accepted .1 h));
-}
+pub cut-inside-plain : CutInsidePlain
+cut-inside-plain e xs m i h =
+    let z = cut-sound .depth-zero e xs in
+    rw (← (z .limits)) (deeper-cut e xs (pos 0) m (i .0) (i .1) (z .accepted .1 h))

@@ -17,10 +17,12 @@ pub record NotWidened (e : Engine) (xs : List ℤ) (d : ℤ) (l : Limits) : Type
   pub accepted : cutOf e xs d .outcome ≡ Accepted
   pub limits : NarrowerLimits (cutOf e xs d .limits) l
 
-pub record DeeperCut : Type 0 where
-  -- of two depths the deeper one is not wider; a depth beyond 6 is refused, and so is one below 0, which the shallower is not
-  pub deeper : (e : Engine) (xs : List ℤ) (k m : ℤ) → k ≤ℤ m → m ≤ℤ pos 6 → cutOf e xs k .outcome ≡ Accepted
-      → NotWidened e xs m (cutOf e xs k .limits)
-  -- and no cut is wider than plain rating
-  pub than-plain : (e : Engine) (xs : List ℤ) (m : ℤ) → IsDepth m → ratedOf e xs .outcome ≡ engine.the-variants.Accepted
-      → NotWidened e xs m (ratedOf e xs .limits)
+-- of two depths the deeper one is not wider; a depth beyond 6 is refused, and so is one below 0, which the shallower is not
+abbrev pub DeeperCut : Type 0
+DeeperCut =
+    (e : Engine) (xs : List ℤ) (k m : ℤ) → k ≤ℤ m → m ≤ℤ pos 6 → cutOf e xs k .outcome ≡ Accepted → NotWidened e xs m (cutOf e xs k .limits)
+
+-- and none is wider than plain rating, which depth 0 is
+abbrev pub CutInsidePlain : Type 0
+CutInsidePlain =
+    (e : Engine) (xs : List ℤ) (m : ℤ) → IsDepth m → ratedOf e xs .outcome ≡ engine.the-variants.Accepted → NotWidened e xs m (ratedOf e xs .limits)

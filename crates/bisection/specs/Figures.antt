@@ -74,6 +74,16 @@ rows =
       class = record { factors = 1; operations = Mul 1 1 ∷ AddC 2 (pos 10000) ∷ Inv 3 ∷ []; ranges = fromTo (− 10000) (pos 20000) ∷ [] };
       gives = record { outcome = Refused (Rate (Divisor 4)); value = zeroRange } ∷ is (2000 to 20000) ∷ is (2000 to 11429) ∷ [];
     }
+    -- what 02's request 11 does not say: narrower ranges at the SAME depth may give more, since the point where they are cut moves. `mul 1 1` on
+    -- −10000..10000 is cut at 0: V −10000..10000, 0..10000; on −10000..6000 at −2000: V −6000..10000, −1200..10000
+    ∷ record {
+      class = record { factors = 1; operations = Mul 1 1 ∷ []; ranges = fromTo (− 10000) (pos 10000) ∷ [] };
+      gives = is (fromTo (− 10000) (pos 10000)) ∷ is (0 to 10000) ∷ [];
+    }
+    ∷ record {
+      class = record { factors = 1; operations = Mul 1 1 ∷ []; ranges = fromTo (− 10000) (pos 6000) ∷ [] };
+      gives = is (fromTo (− 6000) (pos 10000)) ∷ is (fromTo (− 1200) (pos 10000)) ∷ [];
+    }
     ∷ []
 
 -- WHAT THE CUT GIVES of a class at a depth, and at as many as are listed

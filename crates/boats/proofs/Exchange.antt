@@ -4,11 +4,10 @@ use mathlib.Core.List.{List, map}
 use lib.IntN.{ℤ}
 use Rattle.rules.proofs.Exchange.{ratable-exchanged}
 use Rattle.engine.specs.declared.Engine.{Engine}
-use Rattle.engine.specs.declared.Rating.{Rating}
 use Rattle.engine.specs.Engine.{ratedOf}
 use Rattle.engine.specs.Exchange.{ExchangedEngine}
 use Rattle.engine.proofs.Exchange.{exchange-calls}
-use Rattle.boats.specs.Boats.{records, point, boatRating, ratingsOf}
+use Rattle.boats.specs.Boats.{records, point, boatRating}
 use Rattle.boats.specs.Report.{figuresOf, reportOf}
 use Rattle.boats.specs.Fleet.{fleetOf, fleetOfNumbers}
 use Rattle.boats.specs.Exchange.{ExchangeFleet}

@@ -1,5 +1,5 @@
 -- What loading is, without a reader: Text, Codelist, Write, Accepted, Refused. The same computed, in the order of 01: Conditions, Read,
--- Load. Views serves the contracts of private functions.
+-- Load. Swapped references: Exchange. Views serves the contracts of private functions.
 pub mod Text
 pub mod Codelist
 pub mod Write

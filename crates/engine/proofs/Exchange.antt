@@ -1,5 +1,5 @@
 -- Swapped references change no answer of the engine's calls: `exchange-calls`. Assumes nothing.
-use mathlib.Core.Path.{_≡_, refl, ap}
+use mathlib.Core.Path.{refl, ap}
 use Rattle.codelist.specs.declared.Codelist.{Codelist}
 use Rattle.codelist.specs.declared.Outcome as loading
 use Rattle.codelist.specs.Load as Load

@@ -17,9 +17,8 @@ use Rattle.codelist.specs.Write.{textOf}
 use Rattle.codelist.specs.Exchange as exchange
 use Rattle.codelist.specs.Exchange.{OneByOne, none, more, ExchangedOp, add, mul, ExchangedEntry, Exchanged, ExchangedText, left}
 use Rattle.codelist.proofs.Accepted.{accepted-well-formed}
-use Rattle.codelist.proofs.OneByOne.{each-take}
 use Rattle.codelist.proofs.Exchange.{codelist-alike, same-length, exchange-load, exchange-write}
-use Rattle.rules.specs.Run.{operations}
+use Rattle.rules.proofs.Exchange.{operations-exchanged}
 use Rattle.liveness.specs.declared.Outcome.{Outcome}
 use Rattle.liveness.specs.declared.Outcome.the-variants.{Written, Refused}
 use Rattle.liveness.specs.Used.{refersTo, usedBy, used}
@@ -58,19 +57,16 @@ tidy-alike k e (more {x} {y} {xs} {ys} h hs) = go (k (suc e)) refl (tidy-alike k
     go false g l = rw (tidy-dropped k e x xs g, tidy-dropped k e y ys g) l
 
 module _ {c d : Codelist} (h : Exchanged c d) where
-  operations-alike : OneByOne ExchangedEntry (operations c) (operations d)
-  operations-alike = rw (h .count) (each-take ExchangedEntry (d .count) (h .ops))
-
   kept-alike : (i : ℕ) → kept c i ≡ kept d i
   unfolding kept used
-  kept-alike i = rw (h .factors, used-alike (d .factors) operations-alike i)
+  kept-alike i = rw (h .factors, used-alike (d .factors) (operations-exchanged h) i)
 
   -- SO THE TIDIED CODELISTS DIFFER IN THE SWAPS ALONE
   tidied-alike : Exchanged (tidied c) (tidied d)
   unfolding tidied
   tidied-alike =
       let k : kept c ≡ kept d = λ j i. kept-alike i j in
-      rw (k, h .year, h .factors) (codelist-alike (d .year) (d .factors) (tidy-alike (kept d) (d .factors) operations-alike))
+      rw (k, h .year, h .factors) (codelist-alike (d .year) (d .factors) (tidy-alike (kept d) (d .factors) (operations-exchanged h)))
 
 -- ---- the text that is written for the bytes s
 abbrev tidyText : List ℕ → List ℕ

@@ -14,5 +14,5 @@ pub record ExchangeTidy : Type 0 where
   -- the two texts written differ in swapped references alone, and the bytes past them are the same
   pub written : (s t b : List ℕ) (n : ℕ) → ExchangedText s t → tidyOf s (length b) ≡ Written n
       → ExchangedText (take n (bufferOf s b)) (take n (bufferOf t b)) × (drop n (bufferOf s b) ≡ drop n (bufferOf t b))
-  -- and so do what the program `tidy` prints
+  -- and so does what the program `tidy` prints
   pub printed : (s t : List ℕ) → ExchangedText s t → ExchangedText (answerOf s) (answerOf t)

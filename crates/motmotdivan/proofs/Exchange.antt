@@ -1,5 +1,5 @@
 -- Swapped references change no code and no byte of a result: `exchange-c`. Assumes nothing.
-use Prim.Native.Nat.{ℕ, _≤_}
+use Prim.Native.Nat.{ℕ}
 use mathlib.Core.Bool.{Bool, true, false, cond}
 use mathlib.Core.List.{List}
 use mathlib.Core.Option.{Option, some, none, Option·getD}
@@ -7,9 +7,7 @@ use mathlib.Core.Path.{_≡_, refl, sym, ap, subst, _∙_}
 use native.Mathlib.Omega.{arith}
 use lib.Dec.{eqb}
 use lib.ListN.{length}
-use borrow.Author.Tests.{eqb-true}
 use Rattle.codelist.specs.declared.Codelist.{Codelist}
-use Rattle.codelist.specs.declared.Loaded.{Loaded}
 use Rattle.codelist.specs.declared.Outcome.{Outcome}
 use Rattle.codelist.specs.declared.Outcome.the-variants.{Accepted, Refused}
 use Rattle.codelist.specs.Codelist.{WellFormed}
@@ -20,10 +18,10 @@ use Rattle.codelist.proofs.Exchange.{exchange-load}
 use Rattle.rules.proofs.Exchange.{exchange-rate}
 use Rattle.encoding.specs.Encode.{encoded}
 use Rattle.encoding.specs.Decode.{decoded, lentCodelist}
-use Rattle.encoding.specs.Load.{keptOr, leftBy}
+use Rattle.encoding.specs.Load.{keptOr}
 use Rattle.encoding.proofs.Decoded.{decodes-exactly}
 use Rattle.motmotdivan.specs.Record.{rangesOf, Read, numbers, fraction}
-use Rattle.motmotdivan.specs.Calls.{onCodelist, onRead, rateAnswer, loadCode, loadState, rateCode, rateRecord, answerOf, answerCode, answerRecord}
+use Rattle.motmotdivan.specs.Calls.{onCodelist, onRead, rateAnswer, loadCode, loadState, rateCode, rateRecord, answerOf, answerCode}
 use Rattle.motmotdivan.specs.Exchange.{ExchangedDesk, ExchangeC}
 
 -- ---- what a desk holds

@@ -92,16 +92,16 @@ ops-formed (more h hs) e = ap₂ _&&_ (formed-exchanged h e) (ops-formed hs (e +
 
 -- ---- a codelist
 module _ {c d : Codelist} (h : Exchanged c d) where
-  taken : OneByOne ExchangedEntry (operations c) (operations d)
-  taken = rw (h .count) (each-take ExchangedEntry (d .count) (h .ops))
+  pub operations-exchanged : OneByOne ExchangedEntry (operations c) (operations d)
+  operations-exchanged = rw (h .count) (each-take ExchangedEntry (d .count) (h .ops))
 
   pub ratable-exchanged : ratable c ≡ ratable d
   unfolding ratable
-  ratable-exchanged = rw (h .factors, ops-formed taken (d .factors), h .count, each-length ExchangedEntry (h .ops))
+  ratable-exchanged = rw (h .factors, ops-formed operations-exchanged (d .factors), h .count, each-length ExchangedEntry (h .ops))
 
   lines-exchanged : (rs : List Range) → linesOf c rs ≡ linesOf d rs
   unfolding linesOf
-  lines-exchanged rs = rw (h .year, h .factors, run-exchanged taken (factorLines (alwaysBent d) 0 rs))
+  lines-exchanged rs = rw (h .year, h .factors, run-exchanged operations-exchanged (factorLines (alwaysBent d) 0 rs))
 
   pub ranges-exchanged : (rs : List Range) (n : ℕ) → rateRanges c rs n ≡ rateRanges d rs n
   unfolding rateRanges

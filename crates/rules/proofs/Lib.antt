@@ -1,4 +1,4 @@
--- Laws of the rules, and the proofs of what they promise: `Sound.sound`, `Shaped.shaped`, of two boats: `Sisters.sisters`, of refusals:
+-- Laws of the rules, and the proofs of what they promise: `Sound.sound`, `Shaped.shaped`, of two boats: `Sisters.sisters`, of swapped references and narrower ranges: `Exchange.exchange-rate`, `Isotone.isotone`, of refusals:
 -- `Refused.refused-exactly`, and of the published arithmetic: `Published.published`.
 pub mod Members
 pub mod Along

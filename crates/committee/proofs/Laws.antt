@@ -1,0 +1,29 @@
+-- The committee's laws, gathered: `laws`. Assumes nothing.
+use Rattle.codelist.proofs.Exchange.{exchange-load}
+use Rattle.rules.proofs.Exchange.{exchange-rate}
+use Rattle.rules.proofs.Isotone.{isotone}
+use Rattle.engine.proofs.Exchange.{exchange-calls}
+use Rattle.engine.proofs.Isotone.{isotone-call}
+use Rattle.liveness.proofs.Exchange.{exchange-tidy}
+use Rattle.boats.proofs.Exchange.{exchange-fleet}
+use Rattle.bisection.proofs.Exchange.{exchange-cut}
+use Rattle.bisection.proofs.Deeper.{deeper-cut, cut-inside-plain}
+use Rattle.increments.proofs.Exchange.{exchange-sisters}
+use Rattle.motmotdivan.proofs.Exchange.{exchange-c}
+use Rattle.committee.specs.Laws.{CommitteeLaws}
+
+pub laws : CommitteeLaws
+laws = record {
+  exchange-rate = exchange-rate;
+  exchange-load = exchange-load;
+  exchange-calls = exchange-calls;
+  exchange-tidy = exchange-tidy;
+  exchange-fleet = exchange-fleet;
+  exchange-cut = exchange-cut;
+  exchange-sisters = exchange-sisters;
+  exchange-c = exchange-c;
+  isotone = isotone;
+  isotone-call = isotone-call;
+  deeper = deeper-cut;
+  cut-inside-plain = cut-inside-plain;
+}
