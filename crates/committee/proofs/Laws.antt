@@ -10,6 +10,10 @@ use Rattle.bisection.proofs.Exchange.{exchange-cut}
 use Rattle.bisection.proofs.Deeper.{deeper-cut, cut-inside-plain}
 use Rattle.increments.proofs.Exchange.{exchange-sisters}
 use Rattle.motmotdivan.proofs.Exchange.{exchange-c}
+use Rattle.text.proofs.Exchange as rate
+use Rattle.fleet_text.proofs.Exchange as fleet
+use Rattle.cut_text.proofs.Exchange as cut
+use Rattle.sisters_text.proofs.Exchange as sisters
 use Rattle.committee.specs.Laws.{CommitteeLaws}
 
 pub laws : CommitteeLaws
@@ -22,6 +26,10 @@ laws = record {
   exchange-cut = exchange-cut;
   exchange-sisters = exchange-sisters;
   exchange-c = exchange-c;
+  exchange-rate-printed = rate.exchange-printed;
+  exchange-fleet-printed = fleet.exchange-printed;
+  exchange-cut-printed = cut.exchange-printed;
+  exchange-sisters-printed = sisters.exchange-printed;
   isotone = isotone;
   isotone-call = isotone-call;
   deeper = deeper-cut;

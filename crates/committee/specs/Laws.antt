@@ -11,6 +11,10 @@ use Rattle.bisection.specs.Exchange.{ExchangeCut}
 use Rattle.bisection.specs.Deeper.{DeeperCut, CutInsidePlain}
 use Rattle.increments.specs.Exchange.{ExchangeSisters}
 use Rattle.motmotdivan.specs.Exchange.{ExchangeC}
+use Rattle.text.specs.Exchange as rate
+use Rattle.fleet_text.specs.Exchange as fleet
+use Rattle.cut_text.specs.Exchange as cut
+use Rattle.sisters_text.specs.Exchange as sisters
 
 pub record CommitteeLaws : Type 0 where
   -- ════ "Swapping the two references of any `add` or `mul` changes no field of any result, and no number or place of a refusal." ════
@@ -30,6 +34,11 @@ pub record CommitteeLaws : Type 0 where
   pub exchange-sisters : ExchangeSisters
   -- of the C functions (request 10): the same codes, and the same bytes of a result
   pub exchange-c : ExchangeC
+  -- of what the programs print (that of `tidy` is part of `exchange-tidy`)
+  pub exchange-rate-printed : rate.ExchangePrinted
+  pub exchange-fleet-printed : fleet.ExchangePrinted
+  pub exchange-cut-printed : cut.ExchangePrinted
+  pub exchange-sisters-printed : sisters.ExchangePrinted
   -- ════ "In plain rating, uncut, ranges inside accepted ranges, no low end above its high end, are accepted too, and each end they give lies inside the
   -- wider one; so a deeper cut of the same ranges never widens a limit." ════
   pub isotone : IsotoneRating

@@ -4,3 +4,5 @@ pub mod Answering
 -- specs/Promises
 pub mod Lengths
 pub mod Promises
+-- specs/Exchange
+pub mod Exchange

@@ -1,5 +1,6 @@
--- The program's input and output as functions of its bytes: Input, Output, Answer. Promises says what is promised of them.
+-- The program's input and output as functions of its bytes: Input, Output, Answer. Promises and Exchange say what is promised of them.
 pub mod Input
 pub mod Output
 pub mod Answer
 pub mod Promises
+pub mod Exchange

@@ -5,3 +5,4 @@ pub mod Flat
 pub mod Answering
 pub mod Cut
 pub mod Promises
+pub mod Exchange

@@ -5,3 +5,5 @@ pub mod Answering
 pub mod Fields
 pub mod Lengths
 pub mod Promises
+-- specs/Exchange
+pub mod Exchange

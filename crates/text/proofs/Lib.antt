@@ -6,3 +6,4 @@ pub mod Answering
 pub mod Lengths
 pub mod Parsing
 pub mod Faithful
+pub mod Exchange
