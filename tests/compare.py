@@ -37,7 +37,7 @@ import dead_lines
 import fleets
 import pairs
 import years
-from cutting import CutComparison, read, sets_of_lines
+from cutting import CutComparison, read
 from errors import (
     ERRORS, LOADING_ERRORS, SPECIAL_ERRORS, SPECIAL_STEPS, STEPS, YEAR_ERRORS, YEAR_LOADING_ERRORS, YEAR_STEPS, ZERO_FIELD, AbsentEarlier,
     CasesNotApplied, SquaresRoundedEachInCross, SquaresRoundedEachInSq, uncounted, year_errors_of)
@@ -55,6 +55,7 @@ from reference.sheet import EARLIER, PRESENT, load, sheet_text_with
 from reference.sisters import sisters_printed
 from reference.text import parted, printed, run
 from reference.tidy import tidy_printed
+from sets import HULLED, SPECIAL, present_lines, sets_of_lines
 from shares import all_compared, missed_by
 from sister_boats import SistersComparison
 from tally import DIFFERENCES_SHOWN, Tally, difference, print_of, unlike
@@ -111,7 +112,6 @@ RULES = [
 ]
 
 # 02, request 9. What 2016 would do is told by its sets, which a line of 2014 has not.
-HULLED, SPECIAL = "join by hull", "a special case"
 YEAR_RULES = [
     *years.rules_of("rate"),
     *(f"2014: line {name}" for name in ("add", "addc", "mulc", "mul", "pow", "inv")),
@@ -324,21 +324,6 @@ class Comparison(Tally):
 def comes_to_lines(outcome):
     """Whether the ranges were accepted, so that an operation decides the answer."""
     return isinstance(outcome.answer, Result) or outcome.answer.number in (11, 12)
-
-
-def present_lines(sheet):
-    """For each operation line what it would be in 2016, by the sets that it would have there: a join by hull, a special case of a product."""
-    sets = sets_of_lines(sheet._replace(year=PRESENT))
-    found = {}
-    for line, (name, numbers) in enumerate(sheet.operations, sheet.factors + 1):
-        found[line] = set()
-        if name in ("add", "mul"):
-            (depends, bent), (others_depend, others_bent) = (sets[i - 1] for i in numbers)
-            if name == "mul" and len(depends) == len(others_depend) == 1 and depends != others_depend and (bent or others_bent):
-                found[line] = {SPECIAL}
-            elif bent and others_bent and not bent & others_bent:
-                found[line] = {HULLED}
-    return found
 
 
 def narrower(answer, wider):

@@ -22,6 +22,7 @@ from reference.rating import Result
 from reference.sheet import EARLIER, MOST_BYTES, MOST_FACTORS, MOST_LINES, PRESENT, REFERENCES
 from reference.text import MOST_INPUT, parted, printed
 from reference.tidy import last_line
+from sets import sets_of
 from tally import Tally, difference, print_of, unlike
 
 EXACT_SHARE = 0.6  # of the accepted inputs
@@ -465,22 +466,6 @@ def loading_by(wrong):
     rules = Cutting(remembered)
     rules.loading = wrong
     return rules
-
-
-def sets_of_lines(sheet):
-    """The depends-on and the bent set of each line by 01's table, and by request 9 for 2014: no ranges are asked for."""
-    lines = [(frozenset([a]), frozenset()) for a in range(sheet.factors)]
-    for name, numbers in sheet.operations:
-        depends, bent = lines[numbers[0] - 1]
-        if name in ("add", "mul"):
-            others = lines[numbers[1] - 1]
-            depends, bent = depends | others[0], bent | others[1]
-        lines.append((depends, depends if name in ("mul", "pow", "inv") else bent))
-    return [(depends, frozenset(range(sheet.factors))) for depends, _ in lines] if sheet.year == EARLIER else lines
-
-
-def sets_of(sheet):
-    return sets_of_lines(sheet)[-1]
 
 
 def sets_complaint(sheet, got):
