@@ -149,14 +149,16 @@ class Comparison(Tally):
         super().note(rule)
 
     def compare(self, name, text, expected=None, rng=None):
-        """One input: the program's print against the reference's, and the reference's result, which is handed back, against the exact side."""
+        """One input: the program's print against the reference's, and the reference's result against the exact side. What the reference comes to is
+        handed back, and the print."""
         self.passing, self.cases = [], set()
         outcome = run(text, note=self.note)
         ours = printed(outcome.answer)
+        got = print_of(self.binary, text)
         if expected is not None and ours != expected:
             complaint = f"--- figure\n{expected.decode()}--- reference\n{ours.decode()}"
         else:
-            complaint = difference(self.binary, text, ours)
+            complaint = unlike(got, ours)
         if isinstance(outcome.answer, Result):
             self.note_result(outcome)
             if rng is not None and rng.random() < EXACT_SHARE:
@@ -174,7 +176,7 @@ class Comparison(Tally):
         loading = (LOADING_ERRORS if ZERO_FIELD.search(text) else []) + (year_errors_of(text) or [AbsentEarlier])
         self.catch_errors(ours, lambda wrong: printed(run(text, wrong.rules, loading=wrong).answer), loading)
         self.judge(name, text, complaint)
-        return outcome
+        return outcome, got
 
     def exact_complaint(self, outcome, rng):
         ranges = [Range(*outcome.ends[k:k + 2]) for k in range(0, len(outcome.ends), 2)]
@@ -502,12 +504,13 @@ def compared(arguments, share):
     into = Path(arguments.tidy_into).resolve() if arguments.tidy_into else None
     tidying = TidyComparison(Path(arguments.tidy).resolve(), rating.binary, into) if arguments.tidy else None
     for name, text, expected, rng in inputs(arguments.seed, arguments.count, share):
-        outcome = rating.compare(name, text, expected, rng)
+        outcome, _ = rating.compare(name, text, expected, rng)
         if tidying:
             tidying.compare(name, text, outcome, rng=rng)
     if tidying:
         for name, text, expected in tidy_inputs(arguments.seed, arguments.dead_lines, share):
-            tidying.compare(name, text, rating.compare(name, text), expected)
+            outcome, _ = rating.compare(name, text)
+            tidying.compare(name, text, outcome, expected)
     numbers = Path(arguments.rate_many).resolve() if arguments.rate_many else None
     paging = FleetComparison(Path(arguments.fleet).resolve(), numbers) if arguments.fleet else None
     if paging:

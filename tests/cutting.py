@@ -155,6 +155,7 @@ class CutComparison(Tally):
         return 3 if rule in REFUSAL_RULES else 2 if rule in EDGE_RULES + YEAR_RULES else 5
 
     def compare(self, name, text, expected=None):
+        """One input; what the program prints of it is handed back."""
         rng = random.Random(text)
         answer = RIGHT.run(text)
         ours = printed(answer)
@@ -178,6 +179,7 @@ class CutComparison(Tally):
             self.catch_errors(ours, lambda wrong: printed(wrong(remembered).run(text)), CUT_ERRORS)
         self.catch_errors(ours, lambda wrong: printed(wrong(remembered).run(text)), FIRST_LINE_ERRORS)
         self.judge(name, text, complaint)
+        return got
 
     # ---- what is refused ahead of the parts
 

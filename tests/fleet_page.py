@@ -15,7 +15,7 @@ from reference.rating import Result
 from reference.sheet import EARLIER, MOST_FACTORS, NUMERAL, PRESENT, REFERENCES, load, text_lines
 from reference.text import parted
 from reference.tidy import last_line
-from tally import Tally, difference
+from tally import Tally, difference, print_of, unlike
 
 # What 14 is given for. More than one can hold of an input; behind an accepted sheet too many bytes never do alone.
 FAULTS = ("form", "number", "bytes", "no line")
@@ -92,12 +92,14 @@ class FleetComparison(Tally):
         return 5 if rule in REPORT_RULES else 3
 
     def compare(self, name, text, expected=None):
+        """One input; what the program prints of it is handed back."""
         answer = RIGHT.run(text)
         ours = fleet_printed(answer)
+        got = print_of(self.fleet, text)
         if expected is not None and ours != expected:
             complaint = f"--- figure\n{expected.decode()}--- reference\n{ours.decode()}"
         else:
-            complaint = difference(self.fleet, text, ours)
+            complaint = unlike(got, ours)
         if self.rate_many:
             complaint += difference(self.rate_many, text, ours, "1", "numbers")
         faults = faults_of(text)
@@ -115,6 +117,7 @@ class FleetComparison(Tally):
         self.catch_errors(ours, lambda wrong: fleet_printed(loading_by(wrong).run(text)), year_errors_of(given))
         self.catch_errors(ours, lambda wrong: fleet_printed(wrong(remembered).run(text)), FLEET_ERRORS)
         self.judge(name, text, complaint)
+        return got
 
     def note_loading(self, text, refusal, faults):
         """A refusal of loading, and what 14 is due for behind it."""

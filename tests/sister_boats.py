@@ -164,6 +164,7 @@ class SistersComparison(Tally):
         return 5 if rule in LIMIT_RULES else 3 if rule in NINE_RULES else 2
 
     def compare(self, name, text, expected=None):
+        """One input; what the program prints of it is handed back."""
         rng = random.Random(text)
         answer = RIGHT.run(text)
         ours = difference_printed(answer)
@@ -184,6 +185,7 @@ class SistersComparison(Tally):
             self.catch(text, ours, SISTER_LINE_ERRORS)
         self.catch(text, ours, SISTER_BOAT_ERRORS)
         self.judge(name, text, complaint)
+        return got
 
     def catch(self, text, ours, errors):
         self.catch_errors(ours, lambda wrong: difference_printed(wrong(remembered).run(text)), errors)

@@ -11,7 +11,7 @@ from reference.rating import Result
 from reference.sheet import EARLIER, REFERENCES, load, sheet_text, sheet_text_with
 from reference.text import parted, printed, run
 from reference.tidy import Tidying, last_line, operation_at, tidy, tidy_printed
-from tally import Tally, difference
+from tally import Tally, difference, print_of, unlike
 
 RIGHT = Tidying()
 UNNAMED_SHARE = 0.3  # of the sheets that name 2016, tidied without it, too
@@ -57,13 +57,14 @@ class TidyComparison(Tally):
         self.rules = TIDY_RULES + YEAR_RULES + (BUFFER_RULES if into else [])
 
     def compare(self, name, text, outcome, expected=None, rng=None):
-        """The sheet of one input of `rate`, and the outcome that the reference gives of the whole input."""
+        """The sheet of one input of `rate`, and the outcome that the reference gives of the whole input; what the program prints is handed back."""
         given, box = parted(text)
         ours = tidy_printed(given)
+        got = print_of(self.tidy, given)
         if expected is not None and ours != expected:
             complaint = f"--- figure\n{expected.decode()}--- reference\n{ours.decode()}"
         else:
-            complaint = difference(self.tidy, given, ours)
+            complaint = unlike(got, ours)
         try:
             sheet = load(given)
         except Refused as refused:
@@ -83,6 +84,7 @@ class TidyComparison(Tally):
         if self.into and (rng is None or rng.random() < BUFFER_SHARE):
             complaint += self.buffer_complaint(given, ours)
         self.judge(name + ", tidied", given, complaint)
+        return got
 
     def year_complaint(self, given, sheet, ours):
         """02, request 9: "A tidied sheet names the year only for 2014"; and with 2016 named a sheet is tidied as it is without."""
