@@ -17,13 +17,15 @@ tests/compare.py --binary PATH [--tidy PATH [--tidy-into PATH]] [--fleet PATH [-
     difference of the premiums is inside, and for a share that of two points with fractions, and the boats exchanged (sister_boats.py)
     `rate_many`: the lists of `fleet`, by the other form in which boats are handed over
     `cut_many`: a share of the inputs of `cut`, each made a few times
+    the laws of 02's request 11 (laws.py): a share of the inputs of all five programs, accepted or refused, with references exchanged, and a share of
+    those that `rate` accepts with narrower ranges (variants.py), beside what was printed of them
 tests/compare.py --self-test VECTORS [--program NAME]
     the reference alone against a file of vectors, one JSON object a line with "input" (hex) and "expected"; the program is the one that is named, or
     else the vector's "kind", or `rate` where that is no program's name
 
 Fails, too, where a rule, a refusal, a wrong rule of errors.py or an order of two refusals (orders.py) was never met, or less often than it has to be
 (fleet_page.py, cutting.py, sister_boats.py). The same seed gives the same inputs, for any number of processes that they are dealt out to (--jobs). The
-closing line counts each input once for each program.
+closing line counts each input once for each program, and once more for each law that was asked of it.
 """
 import argparse
 import json
@@ -36,6 +38,7 @@ import cuts
 import dead_lines
 import fleets
 import pairs
+import variants
 import years
 from cutting import CutComparison, read
 from errors import (
@@ -44,6 +47,7 @@ from errors import (
 from figures import APART, FIGURES, LIMITED, REPORTED, TIDIED
 from fleet_page import FleetComparison
 from generate import box_text, case, input_text
+from laws import LawsComparison
 from orders import ORDERS, cases, orders_of
 from reference.cut import cut_printed
 from reference.exact import TooLarge, broken_promises
@@ -67,6 +71,7 @@ OTHER_YEAR_SHARE = 0.2  # beside the figures
 ORDER_ROUNDS = 3  # inputs for each order
 FLEET_ROUNDS = 3  # inputs for each way in which a list of boats is refused, and for each of its edges
 CUT_ROUNDS = 2  # inputs for each way in which a first line is refused, for each order behind one, and for each edge
+LAW_ROUNDS = 10  # inputs for each way in which a sheet with references to exchange is refused
 SISTERS_ROUNDS = 2  # inputs for each way in which boat lines are refused, for each order before them, and for each edge
 
 SPECIAL_CASES = ["mul, case 4", "mul, case 7", "mul, case 10"]
@@ -439,6 +444,23 @@ def fixed_sisters_inputs(seed):
             yield f"'{name}', {number}", text, None
 
 
+def law_inputs(seed, share):
+    """Inputs for the laws alone: a program, a name, and the bytes."""
+    for number in range(LAW_ROUNDS)[share]:
+        for program, name, text in variants.refused(random.Random(f"{seed}/law/{number}")):
+            yield program, f"'{name}', {number}", text
+
+
+def law_examples():
+    """The examples for the committee: a program, a name, an input, a variant of it, and what is printed of the variant."""
+    committee = EXAMPLES / "committee"
+    for program, given, variant in (
+            ("rate", EXAMPLES / "motor-boat.in", "motor-boat.in"), ("rate", EXAMPLES / "dinghy.in", "dinghy.in"),
+            ("cut", committee / "cut-at-0.cut", "cut-at-0.cut"), ("cut", committee / "cut-at-0.cut", "cut-below-0.cut")):
+        other = committee / variant
+        yield program, f"example 'committee/{other.stem}'", given.read_bytes(), other.read_bytes(), other.with_suffix(".out").read_bytes()
+
+
 PRINTS = {
     "rate": lambda text: printed(run(text).answer),
     "tidy": tidy_printed,
@@ -503,29 +525,39 @@ def compared(arguments, share):
     rating = Comparison(Path(arguments.binary).resolve())
     into = Path(arguments.tidy_into).resolve() if arguments.tidy_into else None
     tidying = TidyComparison(Path(arguments.tidy).resolve(), rating.binary, into) if arguments.tidy else None
+    beside = {program: getattr(arguments, program) for program in ("tidy", "fleet", "cut", "sisters")}
+    laws = LawsComparison({"rate": rating.binary, **{program: Path(path).resolve() for program, path in beside.items() if path}})
     for name, text, expected, rng in inputs(arguments.seed, arguments.count, share):
-        outcome, _ = rating.compare(name, text, expected, rng)
+        outcome, got = rating.compare(name, text, expected, rng)
+        laws.compare(name, text, outcome, got)
         if tidying:
-            tidying.compare(name, text, outcome, rng=rng)
+            laws.compare_of("tidy", name, parted(text)[0], tidying.compare(name, text, outcome, rng=rng))
     if tidying:
         for name, text, expected in tidy_inputs(arguments.seed, arguments.dead_lines, share):
-            outcome, _ = rating.compare(name, text)
-            tidying.compare(name, text, outcome, expected)
+            outcome, got = rating.compare(name, text)
+            laws.compare(name, text, outcome, got)
+            laws.compare_of("tidy", name, parted(text)[0], tidying.compare(name, text, outcome, expected))
+    for program, *made in law_inputs(arguments.seed, share):
+        if program in laws.programs:
+            laws.compare_made(program, *made)
+    for program, *example in [*law_examples()][share]:
+        if program in laws.programs:
+            laws.compare_example(program, *example)
     numbers = Path(arguments.rate_many).resolve() if arguments.rate_many else None
     paging = FleetComparison(Path(arguments.fleet).resolve(), numbers) if arguments.fleet else None
     if paging:
         for name, text, expected in fleet_inputs(arguments.seed, arguments.fleets, share):
-            paging.compare(name, text, expected)
+            laws.compare_of("fleet", name, text, paging.compare(name, text, expected))
     many = Path(arguments.cut_many).resolve() if arguments.cut_many else None
     cutting = CutComparison(Path(arguments.cut).resolve(), many) if arguments.cut else None
     if cutting:
         for name, text, expected in cut_inputs(arguments.seed, arguments.cuts, share):
-            cutting.compare(name, text, expected)
+            laws.compare_of("cut", name, text, cutting.compare(name, text, expected))
     sisters = SistersComparison(Path(arguments.sisters).resolve()) if arguments.sisters else None
     if sisters:
         for name, text, expected in sisters_inputs(arguments.seed, arguments.pairs, share):
-            sisters.compare(name, text, expected)
-    return [comparison for comparison in (rating, tidying, paging, cutting, sisters) if comparison]
+            laws.compare_of("sisters", name, text, sisters.compare(name, text, expected))
+    return [comparison for comparison in (rating, tidying, paging, cutting, sisters, laws) if comparison]
 
 
 def concluded(comparisons):

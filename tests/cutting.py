@@ -93,7 +93,7 @@ YEAR_RULES = years.rules_of("cut") + [
     *(f"cut: 2014, accepted, depth {depth}" for depth in range(MOST_DEPTH + 1)),
     *(f"cut: 2014, {rule}" for rule in (
         "another bend or bent set than in 2016", "refused, and accepted in 2016", "one half alone refused, and none in 2016",
-        "uncut refused with 12, and accepted where it is cut", "exact")),
+        "uncut refused with 12, and accepted where it is cut", "a limit narrower by one depth more", "exact")),
 ]
 
 
@@ -290,7 +290,9 @@ class CutComparison(Tally):
         self.note(f"cut: depth {whole.depth + 1} inside depth {whole.depth}")
         if deeper != got:
             self.note("cut: a limit narrower by one depth more")
-        return complaint + inside_complaint(deeper, got, "those of the depth before")
+            if sheet.year == EARLIER:
+                self.note("cut: 2014, a limit narrower by one depth more")
+        return complaint + inside_complaint(deeper, got, "the depth before's")
 
     def exact_complaint(self, rng, sheet, whole, uncut):
         """The promises at one point of the class: anywhere in it, or at a cut point or beside it."""

@@ -9,6 +9,8 @@ misses of what is used, what is kept, how it is renumbered and when the year is 
 is counted, summed and compared, and of which lists are taken; those of classes cut finer (request 6), of which range is cut, where and how often, of
 what is made of the two halves, of which depths are taken, and of the first line; those of sister boats (request 7), of which products are summed and
 how the sums are rounded, of which boats are taken and when that is asked, and of the boat lines. Of these three the year can be forgotten, too.
+Those of the committee's laws (request 11), some of which have another place above, break a law: with references exchanged they give something else,
+or ranges inside accepted ones are refused or get wider limits.
 Those of the C functions (request 10) are near misses of the code, of what is written and when, of which desks are empty, of which doubles are whole
 numbers, of the order of refusals, and of the two records.
 """
@@ -3947,3 +3949,91 @@ CALLED_RATE_ERRORS = [
     BentBeforeDepends, HighBeforeLow, SlopesOfFactors, MaskFromTwo, SetCounted, MinusZeroWritten, WrittenHighestFirst, SinglesWritten,
     PlaceAsTextLine,
 ]
+
+
+# ---- the committee's laws (02, request 11): these give another answer where references are exchanged
+
+class FirstSlopesLeftOut(Rules):
+    """A product's slopes without V_j·G_i, the first line's."""
+    def multiplied(self, x, y):
+        value, _, depends = super().multiplied(x, y)
+        return value, tuple(self.product(x.value, h, "mul.ViGj") for h in y.slopes), depends
+
+
+class SecondBendLeftOut(Rules):
+    """A product's bend without V_i·E_j, the second line's; of a special case as it should be."""
+    def general_bend(self, x, y):
+        return super().general_bend(x, y._replace(bend=ZERO))
+
+
+class SecondBendLeftOutIn2014(Rules):
+    """A product's bend of 2014 without V_i·E_j, the second line's."""
+    def mul_2014(self, x, y):
+        return super().mul_2014(x, y._replace(bend=ZERO))
+
+
+class RootOfFirstSquares(Rules):
+    """β taken of the first line's slopes alone."""
+    def beta(self, g, h, over):
+        return super().beta(g, g, over)
+
+
+class BentAsFirst(Rules):
+    """The bent set of a sum taken from its first line, where that is bent."""
+    def add(self, x, y):
+        return super().add(x, y)._replace(bent=x.bent or y.bent)
+
+
+class BillionOfFirstBend(Rules):
+    """A refused beyond 1,000,000,000 units, and B not."""
+    def within(self, r, step):
+        if step != "mul.B":
+            super().within(r, step)
+
+
+class ReferencesRise(WrongLoading):
+    """5 given where the first reference is above the second."""
+    def check_references(self, operation, codelist_line, place):
+        super().check_references(operation, codelist_line, place)
+        references = operation.numbers[:REFERENCES[operation.name]]
+        if list(references) != sorted(references):
+            refuse(5, place)
+
+
+class SecondZeroTaken(WrongLoading):
+    """0 taken as a second reference, for the line before."""
+    def check_references(self, operation, codelist_line, place):
+        if REFERENCES[operation.name] == 2 and operation.numbers[1] == 0:
+            operation = operation._replace(numbers=(operation.numbers[0], codelist_line - 1))
+        super().check_references(operation, codelist_line, place)
+
+
+EXCHANGE_ERRORS = [
+    FirstSlopesLeftOut, SecondBendLeftOut, SecondBendLeftOutIn2014, RootOfFirstSquares, BentAsFirst, BillionOfFirstBend, CaseFourLeftOut,
+    CaseSevenLeftOut, ExtendedTable,
+]
+
+EXCHANGE_LOADING_ERRORS = [ReferencesRise, SecondZeroTaken]
+
+EXCHANGE_TIDY_ERRORS = [SecondOfProductUnused, SecondOfSumUnused, SecondLeftOld]
+
+
+# ---- the committee's laws: these refuse ranges inside accepted ones, or give an end outside theirs, or another set. How a step rounds, be it to the
+# nearest unit, is not among them: whatever keeps the order of two numbers keeps the law.
+
+class PointsRefused(Rules):
+    """A range of one point refused with 9."""
+    def factor_line(self, i, r):
+        if r.low == r.high:
+            refuse(9, i + 1)
+        return super().factor_line(i, r)
+
+
+class PointsWidened(Rules):
+    """A value of one point given a unit on either side."""
+    def result(self, line):
+        low, high = line.value
+        return super().result(line._replace(value=Range(low - 1, high + 1)) if low == high else line)
+
+
+NARROWING_ERRORS = [SquareByEnds, SquaresOfHighEnds, MagnitudeOfHighEnd, SlopesDependOn, PointsRefused, PointsWidened]
