@@ -40,11 +40,13 @@ pub record CommitteeLaws : Type 0 where
   pub exchange-cut-printed : cut.ExchangePrinted
   pub exchange-sisters-printed : sisters.ExchangePrinted
   -- ════ "In plain rating, uncut, ranges inside accepted ranges, no low end above its high end, are accepted too, and each end they give lies inside the
-  -- wider one; so a deeper cut of the same ranges never widens a limit." ════
+  -- wider one" ════
+  -- of rating
   pub isotone : IsotoneRating
   -- of the engine's call
   pub isotone-call : IsotoneCall
-  -- of two depths of one class
+  -- ════ "so a deeper cut of the same ranges never widens a limit" ════
+  -- of two depths of one class, the shallower accepted
   pub deeper : DeeperCut
-  -- and of any depth beside plain rating
+  -- of any depth beside plain rating
   pub cut-inside-plain : CutInsidePlain

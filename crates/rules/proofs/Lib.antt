@@ -1,5 +1,6 @@
--- Laws of the rules, and the proofs of what they promise: `Sound.sound`, `Shaped.shaped`, of two boats: `Sisters.sisters`, of swapped references and narrower ranges: `Exchange.exchange-rate`, `Isotone.isotone`, of refusals:
--- `Refused.refused-exactly`, and of the published arithmetic: `Published.published`.
+-- Laws of the rules, and the proofs of what they promise: `Sound.sound`, `Shaped.shaped`, of two boats: `Sisters.sisters`, of refusals:
+-- `Refused.refused-exactly`, of the published arithmetic: `Published.published`, and of swapped references and narrower ranges:
+-- `Exchange.exchange-rate`, `Isotone.isotone`.
 pub mod Members
 pub mod Along
 pub mod Accepted
