@@ -6,7 +6,7 @@ ghost use Rattle.codelist.specs.Load.{numberOf, placeOf, empty, saturate
 
 mod lines; // lines.rt: the words, the operation lines and the first line of a text
 mod loading; // loading.rt: the year, the conditions on a line, its operation, and the operation lines one after another
-mod numerals; // numerals.rt: bytes, digits and numerals of a text
+pub mod numerals; // numerals.rt: bytes, digits and numerals of a text
 mod well_formed; // well_formed.rt: the references, exponents and constants of an operation
 
 use lines::FirstRead;

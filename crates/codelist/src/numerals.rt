@@ -15,14 +15,14 @@ const ZERO: u64 = 48;
 const NINE: u64 = 57;
 
 // The byte at a place of the text, and 256 past its end.
-pub(crate) fn byte_at(s: &[u8], at: usize) -> u64
+pub fn byte_at(s: &[u8], at: usize) -> u64
     ensures { λ r. ⌜ r ≡ peek (drop at (now (s .entry))) ⌝ }
 {
     if at < s.len() { s[at] as u64 } else { 256 }
 }
 
 // The value of the digit at a place, and 10 where there is none.
-fn digit_at(s: &[u8], at: usize) -> u64
+pub fn digit_at(s: &[u8], at: usize) -> u64
     ensures { λ r. ⌜ r ≡ digit (peek (drop at (now (s .entry)))) ⌝ }
 {
     let b = byte_at(s, at);

@@ -1,0 +1,12 @@
+-- Formulas as members write them (02, request 12). What a formula is: Grammar; where a text that is none goes wrong: Viable; what a formula is worth:
+-- Value; what it becomes: Convert. The same computed: Read, Load. What is promised: Exactly. Views serves the contracts of private functions.
+pub mod Grammar
+pub mod Viable
+pub mod Units
+pub mod Value
+pub mod Convert
+pub mod Read
+pub mod Load
+pub mod Exactly
+pub mod Figures
+pub mod Views
