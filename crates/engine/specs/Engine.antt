@@ -5,11 +5,14 @@ use Prim.Native.Nat.{ℕ}
 use lib.IntN.{ℤ}
 use Rattle.codelist.specs.declared.Outcome as loading
 use Rattle.codelist.specs.declared.Codelist.{Codelist}
+use Rattle.codelist.specs.declared.Loaded.{Loaded}
 use Rattle.codelist.specs.Load as Load
 use Rattle.rules.specs.declared.Outcome as rating
 use Rattle.rules.specs.declared.Rating as rules
 use Rattle.rules.specs.declared.Limits.{Limits}
 use Rattle.rules.specs.Rate as Rate
+use Rattle.formulas.specs.Load as Formula
+use Rattle.formulas.specs.Load.{Given, given, refused, formulaOf}
 use Rattle.engine.specs.declared.Engine.{Engine}
 use Rattle.engine.specs.declared.Refusal as refusal
 use Rattle.engine.specs.declared.Refusal.{Refusal}
@@ -22,10 +25,12 @@ use Rattle.engine.specs.declared.Rating.{Rating}
 abbrev pub numberOf : Refusal → ℕ
 numberOf (refusal.the-variants.Load r) = Load.numberOf r
 numberOf (refusal.the-variants.Rate r) = Rate.numberOf r
+numberOf (refusal.the-variants.Formula r) = Formula.numberOf r
 
 abbrev pub placeOf : Refusal → ℕ
 placeOf (refusal.the-variants.Load r) = Load.placeOf r
 placeOf (refusal.the-variants.Rate r) = Rate.placeOf r
+placeOf (refusal.the-variants.Formula r) = Formula.placeOf r
 
 -- "A desk is started empty"
 unfoldable pub emptyEngine : Engine
@@ -38,6 +43,14 @@ loaded e (loading.the-variants.Refused r) c = record { outcome = Refused (refusa
 
 unfoldable pub loadedOf : Engine → List ℕ → Loading
 loadedOf e s = loaded e (Load.loadOf s .outcome) (Load.loadOf s .codelist)
+
+-- A formula (02, request 12): "The resulting sheet is loaded as any other, in the same call"; after refusal 19 or 20 the engine is as before
+abbrev pub formulaLoaded : Engine → Given Loaded → Loading
+formulaLoaded e (given l) = loaded e (l .outcome) (l .codelist)
+formulaLoaded e (refused r) = record { outcome = Refused (refusal.the-variants.Formula r); engine = e }
+
+unfoldable pub formulaLoadedOf : Engine → List ℕ → ℕ → Loading
+formulaLoadedOf e s k = formulaLoaded e (formulaOf s k)
 
 -- Rating is a function of the codelist and the ranges
 abbrev pub outcomeOf : rating.Outcome → Outcome

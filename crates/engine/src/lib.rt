@@ -1,6 +1,6 @@
 // The engine of 01 (its "desk"): it holds one codelist or none, loads one from bytes, and rates ranges against it.
 ghost use mathlib.Core.Path.{_≡_};
-ghost use Rattle.engine.specs.Engine.{numberOf, placeOf, emptyEngine, loaded, loadedOf, outcomeOf, asRating, ratedOf};
+ghost use Rattle.engine.specs.Engine.{numberOf, placeOf, emptyEngine, loaded, loadedOf, formulaLoadedOf, outcomeOf, asRating, ratedOf};
 ghost use Rattle.rules.specs.Rate;
 use codelist::Codelist;
 use rules::Limits;
@@ -12,12 +12,14 @@ pub struct Engine {
     pub codelist: Codelist,
 }
 
-// 01's refusals 1 to 12, and 15 and 17 of 02.
+// 01's refusals 1 to 12, and 15, 17, 19 and 20 of 02.
 pub enum Refusal {
     // 1 to 7, 15 and 17
     Load(codelist::Refusal),
     // 8 to 12
     Rate(rules::Refusal),
+    // 19 and 20
+    Formula(formulas::Refusal),
 }
 
 pub enum Outcome {
@@ -45,6 +47,7 @@ impl Refusal {
         match self {
             Refusal::Load(r) => r.number(),
             Refusal::Rate(r) => rate_number(r),
+            Refusal::Formula(r) => r.number(),
         }
     }
 
@@ -55,6 +58,7 @@ impl Refusal {
         match self {
             Refusal::Load(r) => r.place(),
             Refusal::Rate(r) => rate_place(r),
+            Refusal::Formula(r) => r.place(),
         }
     }
 }
@@ -106,6 +110,20 @@ impl Engine {
         let outcome = l.outcome;
         let c = l.codelist;
         replaced(self, outcome, c)
+    }
+
+    // The codelist of a formula with a factor count (02, request 12): its sheet is loaded as any other. Or the refusal and the engine as it was.
+    pub fn load_formula(self, text: &[u8], factors: u64) -> Loading
+        ensures { λ r. ⌜ r ≡ formulaLoadedOf self (now (text .entry)) factors ⌝ }
+    {
+        let mut sheet = [0u8; 4097];
+        match formulas::convert(text, factors, &mut sheet) {
+            formulas::Converted::Sheet(len) => self.load(&sheet[..len]),
+            formulas::Converted::Refused(why) => Loading {
+                outcome: Outcome::Refused(Refusal::Formula(why)),
+                engine: self,
+            },
+        }
     }
 
     // The limits over the ranges, two numbers for each factor, or the refusal. The engine stays as it is.

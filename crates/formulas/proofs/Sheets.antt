@@ -6,14 +6,14 @@ use mathlib.Core.Option.{Option, none, some}
 use mathlib.Core.Path.{_≡_, refl, sym, ap, subst, _∙_}
 use native.Mathlib.Decide.{decLt}
 use native.Mathlib.Omega.{arith}
-use lib.ListN.{length, take, drop, replicate, length-append, length-drop, drop-of-length-le}
+use lib.ListN.{length, take, drop, replicate, length-append, length-take, length-drop, drop-of-length-le}
 use lib.Seq.{take-all, length-take-le, take-append-seam}
 use borrow.Author.Tests.{lt-leb}
 use Rattle.codelist.specs.Load.{loadOf}
 use Rattle.codelist.specs.Text.{absent, firstText}
 use Rattle.codelist.specs.Write.{plain}
 use Rattle.writer.specs.Lent.{Lent, lent, putText}
-use Rattle.writer.proofs.Writing.{putText-append, cut-off}
+use Rattle.writer.proofs.Writing.{putText-append, cut-off, filled}
 use Rattle.formulas.specs.declared.Converted.{Converted}
 use Rattle.formulas.specs.declared.Converted.the-variants.{Sheet, Refused}
 use Rattle.formulas.specs.declared.Refusal.{Refusal}
@@ -24,7 +24,8 @@ use Rattle.formulas.specs.declared.reader.State.{State}
 use Rattle.formulas.specs.Grammar.{Tree, deepest, longest}
 use Rattle.formulas.specs.Convert.{Conversion, operand, mixed, countOf, convert, linesText, sheetText, sheetFrom, sheetOf}
 use Rattle.formulas.specs.Read.{Found, good, stuck, sumAt, atomAt, Parsed, tree, fault, ended, placeIn, parse}
-use Rattle.formulas.specs.Load.{Given, given, refused, fromSheet, fromParsed, sheetFor, firstBytes, answered, convertedOf, bufferAfter, bufferOf}
+use Rattle.formulas.specs.Load.{Given, given, refused, fromSheet, fromParsed, sheetFor, loadedSheet, formulaOf, firstBytes, answered, convertedOf, bufferAfter}
+use Rattle.formulas.specs.Load.{bufferOf}
 use Rattle.formulas.specs.Views.{Inside, Drafts, Draft, Holds, HoldsAll, Does, startAt}
 use Rattle.formulas.proofs.Doing.{Works, stuck-of, good-of}
 use Rattle.formulas.proofs.Laws.{inside-at}
@@ -158,16 +159,20 @@ pub record Front (bytes : List ℕ) (len : ℕ) (x : List ℕ) : Type 0 where
   pub count : len ≡ length (firstBytes x)
   pub bytes-are : take len bytes ≡ firstBytes x
 
-pub front : (bytes : List ℕ) (len : ℕ) (x : List ℕ) → lent bytes len ≡ putText (lent (replicate 4097 0) 0) x → Front bytes len x
+in-front : (bytes rest : List ℕ) (len : ℕ) (x : List ℕ) → bytes ≡ firstBytes x ++ rest → len ≡ length (firstBytes x) → Front bytes len x
+in-front bytes rest len x b n = record {
+  inside = omega (arith, n, simp length-append at (ap length b));
+  count = n;
+  bytes-are = rw (b, n) (take-append-seam (firstBytes x) rest);
+}
+
+front : (bytes : List ℕ) (len : ℕ) (x : List ℕ) → lent bytes len ≡ putText (lent (replicate 4097 0) 0) x → Front bytes len x
 front bytes len x e =
     let c = e ∙ cut-off (replicate 4097 0) x in
-    let b : bytes ≡ firstBytes x ++ drop (length x) (replicate 4097 0) = ap (λ (o : Lent). o .bytes) c in
-    let n : len ≡ length (firstBytes x) = ap (λ (o : Lent). o .at) c in
-    let t : take len bytes ≡ firstBytes x = rw (b, n) (take-append-seam (firstBytes x) (drop (length x) (replicate 4097 0))) in
-    record { inside = omega (arith, n, simp length-append at (ap length b)); count = n; bytes-are = t }
+    in-front bytes (drop (length x) (replicate 4097 0)) len x (ap (λ (o : Lent). o .bytes) c) (ap (λ (o : Lent). o .at) c)
 
 -- a sheet that was cut is refused as the whole one is
-pub cut-loads : (x : List ℕ) → loadOf (firstBytes x) ≡ loadOf x
+cut-loads : (x : List ℕ) → loadOf (firstBytes x) ≡ loadOf x
 unfolding loadOf
 cut-loads x = go (decLt 4097 (length x))
   where
@@ -177,7 +182,11 @@ cut-loads x = go (decLt 4097 (length x))
         simp (lt-leb (length (firstBytes x)) 4096 (omega arith), lt-leb (length x) 4096 (omega arith))
     go (no h) = ap loadOf (take-all 4097 x (omega arith))
 
--- what `convert` makes of a draft
+pub front-loads : (bytes : List ℕ) (len : ℕ) (x : List ℕ) → Front bytes len x → loadOf (take len bytes) ≡ loadOf x
+front-loads bytes len x f = ap loadOf (f .bytes-are) ∙ cut-loads x
+
+-- ════ what `convert` makes of a draft ════
+
 module _ (s : List ℕ) (k : ℕ) (after : List ℕ) where
   pub drafted-sheet : (len : ℕ) (r : Converted) → r ≡ Sheet len → Drafts (replicate 4097 0) after (sheetFor s k) r
       → (x : List ℕ) × (sheetFor s k ≡ given x) × Front after len x
@@ -208,3 +217,36 @@ module _ (s : List ℕ) (k : ℕ) (after : List ℕ) where
       → (Refused why ≡ convertedOf s k) × (before ≡ bufferOf s k before)
   unfolding convertedOf bufferOf
   not-converted why e before = (ap answered (sym e), ap (λ (g : Given (List ℕ)). bufferAfter g before) (sym e))
+
+-- ════ what its caller finds, who lent 4,097 zeros ════
+
+module _ (s : List ℕ) (k : ℕ) (after : List ℕ) (e : after ≡ bufferOf s k (replicate 4097 0)) (r : Converted) (c : r ≡ convertedOf s k) where
+  pub called-sheet : (len : ℕ) → r ≡ Sheet len → (x : List ℕ) × (sheetFor s k ≡ given x) × Front after len x
+  unfolding convertedOf bufferOf
+  called-sheet len q = go (sheetFor s k) refl
+    where
+      go : (g : Given (List ℕ)) → sheetFor s k ≡ g → (x : List ℕ) × (sheetFor s k ≡ given x) × Front after len x
+      go (given x) h =
+          let t : length (firstBytes x) ≤ 4097 = omega (arith, length-take 4097 x) in
+          let o : after ≡ putText (lent (replicate 4097 0) 0) (firstBytes x) .bytes = e ∙ ap (λ (g : Given (List ℕ)). bufferAfter g (replicate 4097 0)) h in
+          let b = o ∙ ap (λ (y : Lent). y .bytes) (filled (replicate 4097 0) (firstBytes x) t) in
+          let n : Sheet len ≡ Sheet (length (firstBytes x)) = sym q ∙ c ∙ ap answered h in
+          (x, h, in-front after (drop (length (firstBytes x)) (replicate 4097 0)) len x b (cc))
+      go (refused why) h = absurd (let n : Sheet len ≡ Refused why = sym q ∙ c ∙ ap answered h in let z : _≡_ {A = ℕ} 0 1 = cc in omega arith)
+
+  pub called-refusal : (why : Refusal) → r ≡ Refused why → sheetFor s k ≡ refused why
+  unfolding convertedOf
+  called-refusal why q = go (sheetFor s k) refl
+    where
+      go : (g : Given (List ℕ)) → sheetFor s k ≡ g → sheetFor s k ≡ refused why
+      go (given x) h = absurd (let n : Sheet (length (firstBytes x)) ≡ Refused why = sym (ap answered h) ∙ sym c ∙ q in let z : _≡_ {A = ℕ} 0 1 = cc in omega arith)
+      go (refused r) h = let n : Refused r ≡ Refused why = sym (ap answered h) ∙ sym c ∙ q in let m : r ≡ why = cc in h ∙ ap refused m
+
+-- and what is loaded then
+pub loaded-given : (s : List ℕ) (k : ℕ) (x : List ℕ) → sheetFor s k ≡ given x → formulaOf s k ≡ given (loadOf x)
+unfolding formulaOf
+loaded-given s k x e = ap loadedSheet e
+
+pub loaded-refused : (s : List ℕ) (k : ℕ) (why : Refusal) → sheetFor s k ≡ refused why → formulaOf s k ≡ refused why
+unfolding formulaOf
+loaded-refused s k why e = ap loadedSheet e
