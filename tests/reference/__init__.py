@@ -10,4 +10,5 @@ fleet.py   02, request 3: figures over a list of boats, and the program `fleet`
 cut.py     02, request 6: rating to a depth, and the program `cut`
 sisters.py 02, request 7: limits of the difference of two boats, and the program `sisters`
 quoting.py 02, request 10: the desk as bytes, records of doubles, and the two C functions
+formula.py 02, request 12: from a formula's text to a sheet, and the program `formula`
 """
