@@ -1,9 +1,9 @@
 #!/usr/bin/env python3
-"""Compares the programs `rate`, `tidy`, `fleet`, `cut` and `sisters` with the papers' rules over unlimited whole numbers and exact fractions
-(tests/reference).
+"""Compares the programs `rate`, `tidy`, `fleet`, `cut`, `sisters` and `formula` with the papers' rules over unlimited whole numbers and exact
+fractions (tests/reference).
 
 tests/compare.py --binary PATH [--tidy PATH [--tidy-into PATH]] [--fleet PATH [--rate-many PATH]] [--cut PATH [--cut-many PATH]] [--sisters PATH]
-        [--seed N] [--count N] [--dead-lines N] [--fleets N] [--cuts N] [--pairs N] [--jobs N]
+        [--formula PATH] [--seed N] [--count N] [--dead-lines N] [--fleets N] [--cuts N] [--pairs N] [--formulas N] [--jobs N]
     `rate`: the figures of the papers, the examples, inputs that two refusals fit, and random ones: every printed byte; the bends beside those
     with each square rounded (02, request 2) and those without special cases of a product (request 4), which must be no narrower; for a share of the
     accepted random ones also the exact premium and its derivatives, as fractions, at a point inside the ranges; and for a share of all that come to
@@ -15,17 +15,19 @@ tests/compare.py --binary PATH [--tidy PATH [--tidy-into PATH]] [--fleet PATH [-
     cut is no wider, and for a share the exact premium and its derivatives, at cut points among others (cutting.py)
     `sisters`: two boats of a class (pairs.py), the figures of the request and the example: every printed byte; of what is printed also that the exact
     difference of the premiums is inside, and for a share that of two points with fractions, and the boats exchanged (sister_boats.py)
+    `formula`: formulas as members write them (formulas.py), the figures of the request and the examples: every printed byte; of the sheets that are
+    printed also that their exact premium is the formula's value, at points where a divisor is 0 among others (formula_texts.py)
     `rate_many`: the lists of `fleet`, by the other form in which boats are handed over
     `cut_many`: a share of the inputs of `cut`, each made a few times
-    the laws of 02's request 11 (laws.py): a share of the inputs of all five programs, accepted or refused, with references exchanged, and a share of
-    those that `rate` accepts with narrower ranges (variants.py), beside what was printed of them
+    the laws of 02's request 11 (laws.py): a share of the inputs of the first five programs, accepted or refused, with references exchanged, and a
+    share of those that `rate` accepts with narrower ranges (variants.py), beside what was printed of them
 tests/compare.py --self-test VECTORS [--program NAME]
     the reference alone against a file of vectors, one JSON object a line with "input" (hex) and "expected"; the program is the one that is named, or
     else the vector's "kind", or `rate` where that is no program's name
 
-Fails, too, where a rule, a refusal, a wrong rule of errors.py or an order of two refusals (orders.py) was never met, or less often than it has to be
-(fleet_page.py, cutting.py, sister_boats.py). The same seed gives the same inputs, for any number of processes that they are dealt out to (--jobs). The
-closing line counts each input once for each program, and once more for each law that was asked of it.
+Fails, too, where a rule, a refusal, a wrong rule of errors.py or of formula_errors.py or an order of two refusals (orders.py) was never met, or less
+often than it has to be (fleet_page.py, cutting.py, sister_boats.py). The same seed gives the same inputs, for any number of processes that they are
+dealt out to (--jobs). The closing line counts each input once for each program, and once more for each law that was asked of it.
 """
 import argparse
 import json
@@ -37,6 +39,7 @@ from pathlib import Path
 import cuts
 import dead_lines
 import fleets
+import formulas
 import pairs
 import variants
 import years
@@ -44,14 +47,16 @@ from cutting import CutComparison, read
 from errors import (
     ERRORS, LOADING_ERRORS, SPECIAL_ERRORS, SPECIAL_STEPS, STEPS, YEAR_ERRORS, YEAR_LOADING_ERRORS, YEAR_STEPS, ZERO_FIELD, AbsentEarlier,
     CasesNotApplied, SquaresRoundedEachInCross, SquaresRoundedEachInSq, uncounted, year_errors_of)
-from figures import APART, FIGURES, LIMITED, REPORTED, TIDIED
+from figures import APART, CONVERTED, FIGURES, LIMITED, REPORTED, TIDIED
 from fleet_page import FleetComparison
+from formula_texts import FormulaComparison
 from generate import box_text, case, input_text
 from laws import LawsComparison
 from orders import ORDERS, cases, orders_of
 from reference.cut import cut_printed
 from reference.exact import TooLarge, broken_promises
 from reference.fleet import Fleet, fleet_printed
+from reference.formula import formula_printed
 from reference.outcome import Refusal
 from reference.ranges import UNIT, Range
 from reference.rating import Result
@@ -73,6 +78,7 @@ FLEET_ROUNDS = 3  # inputs for each way in which a list of boats is refused, and
 CUT_ROUNDS = 2  # inputs for each way in which a first line is refused, for each order behind one, and for each edge
 LAW_ROUNDS = 10  # inputs for each way in which a sheet with references to exchange is refused
 SISTERS_ROUNDS = 2  # inputs for each way in which boat lines are refused, for each order before them, and for each edge
+FORMULA_ROUNDS = 1  # inputs for each way in which a text is refused, for each row of the conversion, and for each edge
 
 SPECIAL_CASES = ["mul, case 4", "mul, case 7", "mul, case 10"]
 
@@ -444,6 +450,24 @@ def fixed_sisters_inputs(seed):
             yield f"'{name}', {number}", text, None
 
 
+def formula_inputs(seed, count, share):
+    """Inputs of `formula`: a name, the bytes, and the print where it is written down."""
+    yield from [*fixed_formula_inputs(seed)][share]
+    for number in range(count)[share]:
+        kind, text = formulas.case(random.Random(f"{seed}/formula/{number}"))
+        yield f"case {number} ({kind})", text, None
+
+
+def fixed_formula_inputs(seed):
+    for name, text, expected in CONVERTED:
+        yield f"figure '{name}'", text, expected
+    for example in sorted((EXAMPLES / "formulas").glob("*.in")):
+        yield f"example '{example.stem}'", example.read_bytes(), example.with_suffix(".out").read_bytes()
+    for number in range(FORMULA_ROUNDS):
+        for name, text in formulas.cases(random.Random(f"{seed}/text/{number}")):
+            yield f"'{name}', {number}", text, None
+
+
 def law_inputs(seed, share):
     """Inputs for the laws alone: a program, a name, and the bytes."""
     for number in range(LAW_ROUNDS)[share]:
@@ -467,6 +491,7 @@ PRINTS = {
     "fleet": lambda text: fleet_printed(Fleet().run(text)),
     "cut": cut_printed,
     "sisters": sisters_printed,
+    "formula": formula_printed,
 }
 
 
@@ -495,6 +520,7 @@ def main():
     parser.add_argument("--fleet", help="the program `fleet`")
     parser.add_argument("--cut", help="the program `cut`")
     parser.add_argument("--sisters", help="the program `sisters`")
+    parser.add_argument("--formula", help="the program `formula`")
     parser.add_argument("--rate-many", help="the program `rate_many`, beside `fleet`")
     parser.add_argument("--cut-many", help="the program `cut_many`, beside `cut`")
     parser.add_argument("--seed", type=int, default=1)
@@ -503,6 +529,7 @@ def main():
     parser.add_argument("--fleets", type=int, default=600, help="random lists of boats, where `fleet` is compared")
     parser.add_argument("--cuts", type=int, default=2500, help="random classes that are cut, where `cut` is compared")
     parser.add_argument("--pairs", type=int, default=2500, help="random classes with two boats, where `sisters` is compared")
+    parser.add_argument("--formulas", type=int, default=1500, help="random formulas, where `formula` is compared")
     parser.add_argument("--jobs", type=int, default=os.cpu_count() or 1, help="processes that the inputs are dealt out to")
     parser.add_argument("--self-test", metavar="VECTORS")
     parser.add_argument("--program", choices=PRINTS, help="whose vectors they are, if not their kind's")
@@ -511,7 +538,7 @@ def main():
         sys.exit(not self_test(arguments.self_test, arguments.program))
     if not arguments.binary:
         parser.error("--binary or --self-test")
-    programs = ("binary", "tidy", "tidy_into", "fleet", "rate_many", "cut", "cut_many", "sisters")
+    programs = ("binary", "tidy", "tidy_into", "fleet", "rate_many", "cut", "cut_many", "sisters", "formula")
     for path in (getattr(arguments, program) for program in programs):
         if path and not Path(path).is_file():
             parser.error(f"no program {path}")
@@ -557,7 +584,11 @@ def compared(arguments, share):
     if sisters:
         for name, text, expected in sisters_inputs(arguments.seed, arguments.pairs, share):
             laws.compare_of("sisters", name, text, sisters.compare(name, text, expected))
-    return [comparison for comparison in (rating, tidying, paging, cutting, sisters, laws) if comparison]
+    converting = FormulaComparison(Path(arguments.formula).resolve()) if arguments.formula else None
+    if converting:
+        for name, text, expected in formula_inputs(arguments.seed, arguments.formulas, share):
+            converting.compare(name, text, expected)
+    return [comparison for comparison in (rating, tidying, paging, cutting, sisters, converting, laws) if comparison]
 
 
 def concluded(comparisons):
