@@ -1,16 +1,17 @@
 #!/usr/bin/env python3
-"""tests/documents.py --binary PATH --tidy PATH --fleet PATH --cut PATH --sisters PATH: runs the examples of README.md, examples/README.md and
-docs/SHEET.md, and compares what the documents say is printed.
+"""tests/documents.py --binary PATH --tidy PATH --fleet PATH --cut PATH --sisters PATH --formula PATH: runs the examples of README.md,
+examples/README.md and docs/SHEET.md, and compares what the documents say is printed.
 
 An example of SHEET.md is a block between lines ```: the input, a line `prints:`, the output. `→` is a tab, and `LINE × N` is that line N times.
 With a line `tidied:` in the place of `prints:` the program is `tidy`, with `reported:` it is `fleet`, with `cut:` it is `cut`, with `sisters:` it is
-`sisters`, else it is `rate`. The first example of README.md and of SHEET.md is indented, and has a remark behind the fields of each line; in the README
-blanks stand for the tabs. In the same way an indented paragraph of any of the three may have a command as its first line,
-`$ target/bin/tidy < examples/FILE` (or `rate`, `fleet`, `cut`, `sisters`) or `$ cat examples/FILE`, and what it prints below; the file may be in a
-directory of examples/. The commands of README.md, "Use from C and Python", are left to tests/quoting.py, which has the library.
+`sisters`, with `formula:` it is `formula`, else it is `rate`. The first example of README.md and of SHEET.md is indented, and has a remark behind
+the fields of each line; in the README blanks stand for the tabs. In the same way an indented paragraph of any of the three may have a command as its
+first line, `$ target/bin/tidy < examples/FILE` (or `rate`, `fleet`, `cut`, `sisters`, `formula`) or `$ cat examples/FILE`, and what it prints below;
+the file may be in a directory of examples/. The commands of README.md, "Use from C and Python", are left to tests/quoting.py, which has the library.
 
-Fails, too, where an operation, a refusal, a program or the year 2014 has no example, where a refusal of SHEET.md's table has no paragraph, and where
-the header for C, docs/STATE.md, SHEET.md and examples/quote.py don't have the same lengths and refusals.
+Fails, too, where an operation, a refusal or the year 2014 has no example, where a program has none in README.md, where a refusal that a program
+prints is not in SHEET.md's table, or one of the table has no paragraph, and where the header for C, docs/STATE.md, SHEET.md and examples/quote.py
+don't have the same lengths and refusals.
 """
 import argparse
 import re
@@ -21,9 +22,9 @@ from typing import NamedTuple
 
 ROOT = Path(__file__).resolve().parent.parent
 OPERATIONS = ("add", "mul", "addc", "mulc", "pow", "inv")
-PROGRAMS = {"prints:": "rate", "tidied:": "tidy", "reported:": "fleet", "cut:": "cut", "sisters:": "sisters"}
+PROGRAMS = {"prints:": "rate", "tidied:": "tidy", "reported:": "fleet", "cut:": "cut", "sisters:": "sisters", "formula:": "formula"}
 # no program prints 10, since each loads a sheet first, nor 13, since `tidy` has room for every sheet, nor 18, since numerals are whole numbers
-REFUSALS = {"rate": [*range(1, 10), 11, 12, 15, 17], "fleet": [14], "cut": [16], "sisters": [8, 9]}
+REFUSALS = {"rate": [*range(1, 10), 11, 12, 15, 17], "fleet": [14], "cut": [16], "sisters": [8, 9], "formula": [19, 20]}
 CALLED = "Use from C and Python"  # the section whose commands tests/quoting.py runs
 CALLS = {"motmotdivan_load": [10, *range(1, 8), 15, 17], "motmotdivan_rate": [10, 8, 18, 9, 11, 12]}
 
@@ -44,6 +45,10 @@ class Example(NamedTuple):
     expected: bytes
 
 
+def named(document):
+    return str(document.relative_to(ROOT))
+
+
 def blocks(document):
     """The examples of a document that stand between lines ```."""
     lines = document.read_text().split("\n")
@@ -52,14 +57,14 @@ def blocks(document):
         block = lines[start + 1:end]
         words = [line for line in block if line in PROGRAMS]
         if len(words) != 1:
-            raise SystemExit(f"{document.name}:{start + 1}: a block without one line of {', '.join(PROGRAMS)}")
+            raise SystemExit(f"{named(document)}:{start + 1}: a block without one line of {', '.join(PROGRAMS)}")
         at = block.index(words[0])
-        yield Example(f"{document.name}:{start + 1}", PROGRAMS[words[0]], written(block[:at]), written(block[at + 1:]))
+        yield Example(f"{named(document)}:{start + 1}", PROGRAMS[words[0]], written(block[:at]), written(block[at + 1:]))
 
 
 def fields(line):
-    """A line of an indented example without its remark: a word or numeral, and the numerals behind it."""
-    return re.match(r" {4}([a-z]+|-?\d+)((?:(?: +|→)-?\d+)*)(?:  |$)", line)
+    """A line of an indented example without its remark: a word or numeral, and the numerals behind it; or a formula."""
+    return re.match(r" {4}([a-z]+|-?\d+|[f\d.^*/+()-]+)((?:(?: +|→)-?\d+)*)(?:  |$)", line)
 
 
 def unremarked(lines):
@@ -75,7 +80,7 @@ def laid_out(document):
     def paragraph(word):
         (found,) = [p for p in paragraphs if re.match(f"    {word}[ →]", p)]
         return unremarked(found.split("\n"))
-    return Example(document.name, "rate", paragraph("factors"), paragraph("value"))
+    return Example(named(document), "rate", paragraph("factors"), paragraph("value"))
 
 
 def parted_at(document, title):
@@ -91,21 +96,22 @@ def commands(document):
         command, *output = paragraph.strip("\n").split("\n")
         if not command.startswith("    $ "):
             continue
-        form = re.fullmatch(r" {4}\$ (?:target/bin/(rate|tidy|fleet|cut|sisters) <|(cat)) (examples/(?:\w+/)?[\w.-]+)", command)
+        form = re.fullmatch(r" {4}\$ (?:target/bin/(rate|tidy|fleet|cut|sisters|formula) <|(cat)) (examples/(?:\w+/)?[\w.-]+)", command)
         if form is None:
-            raise SystemExit(f"{document.name}: a command of another form: {command.strip()}")
-        yield Example(f"{document.name}: {command.strip()}", form[1] or form[2], (ROOT / form[3]).read_bytes(), unremarked(output))
+            raise SystemExit(f"{named(document)}: a command of another form: {command.strip()}")
+        yield Example(f"{named(document)}: {command.strip()}", form[1] or form[2], (ROOT / form[3]).read_bytes(), unremarked(output))
 
 
 def unshown(examples):
-    """The operations without an accepted example that begins with them, the refusals without an example, and the programs and the year without one that
-    is not refused."""
+    """The operations without an accepted example that begins with them, the refusals without an example, the programs without one in README.md that
+    is not refused, and the year without one."""
     accepted = [example for example in examples if not example.expected.startswith(b"refused")]
     first = {example.given.split(b"\n")[1].split(b"\t")[0].decode() for example in accepted if example.program == "rate"}
     refused = {(example.program, int(example.expected.split(b"\t")[1])) for example in examples if example not in accepted}
     missing = [f"`{name}`" for name in OPERATIONS if name not in first]
     missing += [f"refusal {number}" for program, numbers in REFUSALS.items() for number in numbers if (program, number) not in refused]
-    missing += [f"`{program}`" for program in PROGRAMS.values() if program not in {example.program for example in accepted}]
+    first_page = {example.program for example in accepted if example.where.split(":")[0] == "README.md"}
+    missing += [f"`{program}` in README.md" for program in PROGRAMS.values() if program not in first_page]
     named = [example for example in accepted if example.program == "rate" and re.match(rb"factors\t[1-8]\t2014\n", example.given)]
     return missing if named else missing + ["the year 2014"]
 
@@ -128,8 +134,8 @@ def disagreed():
         yield f"the order of refusals in docs/STATE.md, which has {in_order}"
     rows = [int(number) for number in re.findall(r"^\| (\d+) \|", sheet, re.MULTILINE)]
     paragraphs = [int(number) for number in re.findall(r"^### (\d+): ", sheet, re.MULTILINE)]
-    if rows != paragraphs or rows != [*range(1, len(rows) + 1)] or not {*rows} >= {*listed}:
-        yield "the refusals of docs/SHEET.md: its table, its paragraphs, and include/motmotdivan.h"
+    if rows != paragraphs or rows != [*range(1, len(rows) + 1)] or not {*rows} >= {*listed}.union(*REFUSALS.values()):
+        yield "the refusals of docs/SHEET.md: its table, its paragraphs, include/motmotdivan.h, and those that the programs print"
 
 
 def in_words(words):
@@ -147,8 +153,9 @@ def main():
     parser.add_argument("--fleet", required=True, help="the program `fleet`")
     parser.add_argument("--cut", required=True, help="the program `cut`")
     parser.add_argument("--sisters", required=True, help="the program `sisters`")
+    parser.add_argument("--formula", required=True, help="the program `formula`")
     arguments = parser.parse_args()
-    paths = {"rate": arguments.binary, "tidy": arguments.tidy, "fleet": arguments.fleet, "cut": arguments.cut, "sisters": arguments.sisters}
+    paths = {program: getattr(arguments, "binary" if program == "rate" else program) for program in PROGRAMS.values()}
     binaries = {"cat": "cat", **{program: Path(path).resolve() for program, path in paths.items()}}
     readme, classes, sheet = ROOT / "README.md", ROOT / "examples" / "README.md", ROOT / "docs" / "SHEET.md"
     examples = [laid_out(readme), laid_out(sheet), *blocks(sheet)]
