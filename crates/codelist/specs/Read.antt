@@ -75,6 +75,14 @@ unfoldable pub literal : List ℕ → List ℕ → Read Unit
 literal [] s = good tt s
 literal (b ∷ w) s = cond (eqb (peek s) b) (literal w (rest s)) bad
 
+-- Whether the bytes w are at the front of the text
+abbrev pub isGood : {A : Type 0} → Read A → Bool
+isGood (good a s) = true
+isGood bad = false
+
+unfoldable pub beginsWith : List ℕ → List ℕ → Bool
+beginsWith w s = isGood (literal w s)
+
 -- The word k, written w
 unfoldable pub named : Word → List ℕ → List ℕ → Read Word
 named k w s = next (literal w s) (λ _ t. good k t)

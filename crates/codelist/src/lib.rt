@@ -1,7 +1,7 @@
 // The codelist (01's sheet): bytes become a codelist, or one refusal with its place.
 ghost use mathlib.Core.Path.{_≡_};
 ghost use Rattle.codelist.specs.Codelist.{wellFormedOp, ratable};
-ghost use Rattle.codelist.specs.Read.{fieldFrom, pairFrom};
+ghost use Rattle.codelist.specs.Read.{beginsWith, fieldFrom, pairFrom};
 ghost use Rattle.codelist.specs.Load.{numberOf, placeOf, empty, saturated, loadOf};
 
 mod lines; // lines.rt: the words, the operation lines and the first line of a text
@@ -10,6 +10,7 @@ pub mod numerals; // numerals.rt: bytes, digits and numerals of a text
 mod well_formed; // well_formed.rt: the references, exponents and constants of an operation
 
 use lines::FirstRead;
+use lines::LiteralRead;
 use loading::YearNamed;
 
 // 01, "What the engine takes and gives": the bytes of a text, the lines of a codelist, the factors, and the limit on constants in units.
@@ -206,6 +207,16 @@ pub fn pair_at(s: &[u8], at: usize) -> PairRead
             NumeralRead::Bad => PairRead::Bad,
         },
         NumeralRead::Bad => PairRead::Bad,
+    }
+}
+
+// Whether a text begins with the bytes w.
+pub fn begins_with(s: &[u8], w: &[u8]) -> bool
+    ensures { λ r. ⌜ r ≡ beginsWith (now (w .entry)) (now (s .entry)) ⌝ }
+{
+    match lines::literal_at(s, 0, w) {
+        LiteralRead::Good(_) => true,
+        LiteralRead::Bad => false,
     }
 }
 

@@ -27,7 +27,7 @@ pub(crate) struct LineParts {
 }
 
 // What the readers find at a place of the text, each with the place after it.
-enum LiteralRead {
+pub(crate) enum LiteralRead {
     Good(usize),
     Bad,
 }
@@ -55,7 +55,7 @@ pub(crate) enum FirstRead {
 }
 
 // The bytes of w.
-fn literal_at(s: &[u8], from: usize, w: &[u8]) -> LiteralRead
+pub(crate) fn literal_at(s: &[u8], from: usize, w: &[u8]) -> LiteralRead
     ensures { λ r. ⌜ ofLiteral (now (s .entry)) r ≡ literal (now (w .entry)) (drop from (now (s .entry))) ⌝ }
 {
     let mut at = from;

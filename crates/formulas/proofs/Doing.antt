@@ -7,7 +7,6 @@ use mathlib.Core.Path.{_≡_, refl, sym, ap, subst, _∙_}
 use native.Mathlib.Nat.{add-assoc}
 use native.Mathlib.Numerals.{sub-one}
 use native.Mathlib.Omega.{arith}
-use lib.Dec.{leb}
 use lib.ListN.{length, drop, length-drop}
 use borrow.Author.Tests.{eq-eqb, ne-eqb, le-leb, lt-leb, lt-ltb, le-ltb}
 use Rattle.codelist.specs.Text.{TextLine}
@@ -24,6 +23,7 @@ use Rattle.formulas.specs.Read.{Found, good, stuck, andThen, constantAt,
 use Rattle.formulas.specs.Read.{poweredAt, onSign, chain, productAt, sumAt, atomAt, productSign, sumSign}
 use Rattle.writer.specs.Lent.{Lent, lent, putText}
 use Rattle.formulas.specs.Views.{Advanced, operandOf, number, Short, Draft, Holds, HoldsAll, Makes, movedTo, Started, convertFrom, Does}
+use Rattle.formulas.proofs.Numbers.{reference-small}
 use Rattle.formulas.proofs.Grammatical.{digit-of}
 use Rattle.formulas.proofs.Complete.{no-bracket}
 
@@ -75,14 +75,6 @@ module _ (s : List ℕ) (at b : ℕ) (p : peek (drop at s) ≡ 102) (q : b ≡ p
 pub leaf-other : (s : List ℕ) → (peek s ≡ 102 → ⊥) → leafAt s ≡ constantAt s
 unfolding leafAt
 leaf-other s h = simp (ne-eqb (peek s) 102 h)
-
-reference-small : (n i : ℕ) → reference n i ≤ i
-unfolding reference
-reference-small n i = go (leb i n)
-  where
-    go : (b : Bool) → cond b i 0 ≤ i
-    go true = omega arith
-    go false = omega arith
 
 pub factor-short : (n i r : ℕ) → r ≡ reference n i → i ≤ 8 → r < 10 ^ 10
 factor-short n i r e h = omega (arith, reference-small n i, e)

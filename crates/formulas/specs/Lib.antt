@@ -1,5 +1,5 @@
 -- Formulas as members write them (02, request 12). What a formula is: Grammar; where a text that is none goes wrong: Viable; what a formula is worth:
--- Value; what it becomes: Convert. The same computed: Read, Load. What is promised: Exactly. Views serves the contracts of private functions.
+-- Value; what it becomes: Convert. The same computed: Read, Load. What is promised: Exactly. The program: Answer. Views serves the contracts of private functions.
 pub mod Grammar
 pub mod Viable
 pub mod Units
@@ -8,5 +8,6 @@ pub mod Convert
 pub mod Read
 pub mod Load
 pub mod Exactly
+pub mod Answer
 pub mod Figures
 pub mod Views

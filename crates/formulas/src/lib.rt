@@ -3,8 +3,12 @@ ghost use mathlib.Core.Path.{_≡_};
 ghost use Prim.Native.Nat.{_≤_};
 ghost use Rattle.formulas.specs.Convert.{countOf};
 ghost use Rattle.formulas.specs.Load.{numberOf, placeOf, sheetFor, convertedOf, bufferOf};
+ghost use Rattle.writer.specs.Lent.{lent};
+ghost use Rattle.formulas.specs.Answer.{answerOf, inBytes};
 ghost use Rattle.formulas.specs.Views.{Drafts};
+use codelist::NumeralRead;
 
+mod printing; // printing.rt: what the program `formula` prints
 mod lines; // lines.rt: the lines that a formula becomes
 mod reader; // reader.rt: sums, products and atoms
 
@@ -100,5 +104,24 @@ pub fn convert(text: &[u8], factors: u64, sheet: &mut [u8; 4097]) -> Converted
             Converted::Sheet(len)
         }
         Converted::Refused(why) => Converted::Refused(why),
+    }
+}
+
+// What the program `formula` prints: the first `len` bytes.
+pub struct Output {
+    pub bytes: [u8; 4097],
+    pub len: usize,
+}
+
+// The program's output for its input.
+pub fn answer(input: &[u8]) -> Output
+    ensures { λ r. ⌜ lent (r .bytes) (r .len) ≡ inBytes (answerOf (now (input .entry))) ⌝ }
+{
+    if !codelist::begins_with(input, b"factors\t") {
+        return printing::refused(2, 1);
+    }
+    match codelist::field_at(input, 8, 10) {
+        NumeralRead::Good(n, at) => printing::after_first(input, at, printing::count_in(n)),
+        NumeralRead::Bad => printing::refused(2, 1),
     }
 }
