@@ -20,3 +20,4 @@ pub mod Digits
 pub mod WrittenLines
 pub mod Doing
 pub mod Sheets
+pub mod Answers

@@ -3,7 +3,7 @@ use Prim.Native.Nat.{ℕ, _+_, _-_, _≤_, _<_}
 use mathlib.Core.Bool.{Bool, true, false}
 use mathlib.Core.List.{List, [], _∷_, _++_}
 use mathlib.Core.Option.{Option, none, some}
-use mathlib.Core.Path.{_≡_, refl, sym, ap, subst, _∙_}
+use mathlib.Core.Path.{_≡_, refl, sym, ap, ap₂, subst, _∙_}
 use native.Mathlib.Decide.{decLt}
 use native.Mathlib.Omega.{arith}
 use lib.ListN.{length, take, drop, replicate, length-append, length-take, length-drop, drop-of-length-le}
@@ -233,6 +233,16 @@ module _ (s : List ℕ) (k : ℕ) (after : List ℕ) (e : after ≡ bufferOf s k
           let n : Sheet len ≡ Sheet (length (firstBytes x)) = sym q ∙ c ∙ ap answered h in
           (x, h, in-front after (drop (length (firstBytes x)) (replicate 4097 0)) len x b (cc))
       go (refused why) h = absurd (let n : Sheet len ≡ Refused why = sym q ∙ c ∙ ap answered h in let z : _≡_ {A = ℕ} 0 1 = cc in omega arith)
+
+  pub called-out : (len : ℕ) (x : List ℕ) → r ≡ Sheet len → sheetFor s k ≡ given x → lent after len ≡ putText (lent (replicate 4097 0) 0) (firstBytes x)
+  unfolding convertedOf bufferOf
+  called-out len x q h =
+      let t : length (firstBytes x) ≤ 4097 = omega (arith, length-take 4097 x) in
+      let w = filled (replicate 4097 0) (firstBytes x) t in
+      let o : after ≡ putText (lent (replicate 4097 0) 0) (firstBytes x) .bytes = e ∙ ap (λ (g : Given (List ℕ)). bufferAfter g (replicate 4097 0)) h in
+      let n : Sheet len ≡ Sheet (length (firstBytes x)) = sym q ∙ c ∙ ap answered h in
+      let m : len ≡ length (firstBytes x) = cc in
+      ap₂ lent (o ∙ ap (λ (y : Lent). y .bytes) w) m ∙ sym w
 
   pub called-refusal : (why : Refusal) → r ≡ Refused why → sheetFor s k ≡ refused why
   unfolding convertedOf

@@ -117,11 +117,12 @@ pub struct Output {
 pub fn answer(input: &[u8]) -> Output
     ensures { λ r. ⌜ lent (r .bytes) (r .len) ≡ inBytes (answerOf (now (input .entry))) ⌝ }
 {
-    if !codelist::begins_with(input, b"factors\t") {
-        return printing::refused(2, 1);
-    }
-    match codelist::field_at(input, 8, 10) {
-        NumeralRead::Good(n, at) => printing::after_first(input, at, printing::count_in(n)),
-        NumeralRead::Bad => printing::refused(2, 1),
+    if codelist::begins_with(input, b"factors\t") {
+        match codelist::field_at(input, 8, 10) {
+            NumeralRead::Good(n, at) => printing::after_first(input, at, printing::count_in(n)),
+            NumeralRead::Bad => printing::refused(2, 1),
+        }
+    } else {
+        printing::refused(2, 1)
     }
 }

@@ -7,7 +7,7 @@ ghost use lib.ListN.{length, drop};
 ghost use Rattle.writer.specs.Lent.{lent};
 ghost use Rattle.writer.specs.Texts.{refusedText};
 ghost use Rattle.formulas.specs.Load.{sheetFor};
-ghost use Rattle.formulas.specs.Answer.{countIn, printed, afterFirst, inBytes};
+ghost use Rattle.formulas.specs.Answer.{countIn, printed, isEnded, afterFirst, inBytes};
 use super::Converted;
 use super::LONGEST;
 use super::Output;
@@ -62,17 +62,22 @@ fn unended(len: usize) -> Output
     if len <= LONGEST { refused(2, 2) } else { refused(19, 1025) }
 }
 
+// Whether what stands from a place on is ended by byte 10.
+fn is_ended(input: &[u8], from: usize) -> bool
+    ensures { λ r. ⌜ r ≡ isEnded (drop from (now (input .entry))) ⌝ }
+{
+    if from < input.len() { input[input.len() - 1] == LINE_END } else { false }
+}
+
 // What follows the first line, from a place on.
 pub(crate) fn after_first(input: &[u8], from: usize, count: u64) -> Output
     requires { ⌜ from ≤ length (now input) ⌝ }
     ensures { λ r. ⌜ lent (r .bytes) (r .len) ≡ inBytes (afterFirst count (drop from (now (input .entry)))) ⌝ }
 {
-    let end = input.len();
-    if from < end {
-        let last = end - 1;
-        if input[last] == LINE_END {
-            return printed(&input[from..last], count);
-        }
+    if is_ended(input, from) {
+        let last = input.len() - 1;
+        printed(&input[from..last], count)
+    } else {
+        unended(input.len() - from)
     }
-    unended(end - from)
 }
