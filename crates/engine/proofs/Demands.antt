@@ -38,84 +38,10 @@ use Rattle.engine.specs.declared.Refusal.{Refusal}
 use Rattle.engine.specs.declared.Outcome.{Outcome}
 use Rattle.engine.specs.declared.Outcome.the-variants.{Accepted, Refused}
 use Rattle.engine.specs.Engine.{numberOf, placeOf, emptyEngine, loaded, loadedOf, outcomeOf, asRating, ratedOf}
-use Rattle.engine.specs.Refusals.{RefusedWith, LoadTable, bytes, form, factors, year, lines, no-operation, reference, exponent, constant, multiplier}
-use Rattle.engine.specs.Refusals.{RateTable, count, range, no-codelist, divisor, overflow}
+use Rattle.engine.specs.Refusals.{RefusedWith, RateTable, count, range, no-codelist, divisor, overflow}
 use Rattle.engine.specs.Demands.{Demands}
-
--- an accepted outcome is no refusal
-pub not-both : {A : Type 0} {r : Refusal} → Accepted ≡ Refused r → A
-not-both e = let z : _≡_ {A = ℕ} 0 1 = cc in let f : ⊥ = omega arith in absurd f
-
--- the entry i of a list is in it
-is-in : (i : ℕ) (xs : List ℕ) → i < length xs → List·Memᴰ (getD xs i 0) xs
-is-in i [] l = absurd (omega arith)
-is-in zero (x ∷ xs) l = List·Memᴰ·head refl
-is-in (suc i) (x ∷ xs) l = List·Memᴰ·tail (is-in i xs (omega arith))
-
--- ---- loading
-module _ (e : Engine) where
-  decided : (o : loading.Outcome) (c : Codelist) → (loaded e o c .outcome ≡ Accepted) ⊎ ((r : Refusal) × (loaded e o c .outcome ≡ Refused r))
-  decided loading.the-variants.Accepted c = inl refl
-  decided (loading.the-variants.Refused r) c = inr (refusal.the-variants.Load r, refl)
-
-  kept : (o : loading.Outcome) (c : Codelist) (r : Refusal) → loaded e o c .outcome ≡ Refused r → loaded e o c .engine ≡ e
-  kept loading.the-variants.Accepted c r h = not-both h
-  kept (loading.the-variants.Refused q) c r h = refl
-
-  number : (q : codelist.Refusal) → List·Memᴰ (Load.numberOf q) Load.loadNumbers
-  number codelist.the-variants.TooLong = is-in 0 _ (lit≤ tt)
-  number (codelist.the-variants.Malformed p) = is-in 1 _ (lit≤ tt)
-  number codelist.the-variants.FactorCount = is-in 2 _ (lit≤ tt)
-  number codelist.the-variants.UnknownYear = is-in 3 _ (lit≤ tt)
-  number (codelist.the-variants.TooManyLines p) = is-in 4 _ (lit≤ tt)
-  number codelist.the-variants.NoOperation = is-in 4 _ (lit≤ tt)
-  number (codelist.the-variants.Reference p) = is-in 5 _ (lit≤ tt)
-  number (codelist.the-variants.Exponent p) = is-in 6 _ (lit≤ tt)
-  number (codelist.the-variants.Constant p) = is-in 7 _ (lit≤ tt)
-  number (codelist.the-variants.ZeroMultiplier p) = is-in 8 _ (lit≤ tt)
-
-  -- what the outcome says of the codelist's own
-  was-accepted : (o : loading.Outcome) (c : Codelist) → loaded e o c .outcome ≡ Accepted → o ≡ loading.the-variants.Accepted
-  was-accepted loading.the-variants.Accepted c h = refl
-  was-accepted (loading.the-variants.Refused r) c h = not-both (sym h)
-
-  was-refused : (o : loading.Outcome) (c : Codelist) (r : codelist.Refusal)
-      → loaded e o c .outcome ≡ Refused (refusal.the-variants.Load r) → o ≡ loading.the-variants.Refused r
-  was-refused loading.the-variants.Accepted c r h = not-both h
-  was-refused (loading.the-variants.Refused q) c r h = cc
-
-  load-number : (o : loading.Outcome) (c : Codelist) (r : Refusal) → loaded e o c .outcome ≡ Refused r → List·Memᴰ (numberOf r) Load.loadNumbers
-  load-number loading.the-variants.Accepted c r h = not-both h
-  load-number (loading.the-variants.Refused q) c r h =
-      let k : refusal.the-variants.Load q ≡ r = cc in rw (← k) (number q)
-
-  module _ (s : List ℕ) where
-    -- an accepted load, and the codelist that it leaves
-    whole : loadedOf e s .outcome ≡ Accepted → Load.loadOf s ≡ Load.accepted (Load.loadOf s .codelist)
-    unfolding loadedOf
-    whole h = ap (λ (o : loading.Outcome). record { outcome = o; codelist = Load.loadOf s .codelist }) (was-accepted (Load.loadOf s .outcome) (Load.loadOf s .codelist) h)
-
-    left : loadedOf e s .outcome ≡ Accepted → Load.loadOf s .codelist ≡ loadedOf e s .engine .codelist
-    unfolding loadedOf
-    left h = sym (ap (λ (o : loading.Outcome). loaded e o (Load.loadOf s .codelist) .engine .codelist) (was-accepted (Load.loadOf s .outcome) (Load.loadOf s .codelist) h))
-
-    written : loadedOf e s .outcome ≡ Accepted → WellFormed (loadedOf e s .engine .codelist) × IsText (loadedOf e s .engine .codelist) s
-    written h = rw (← (left h)) (accepted-exactly .where-written s (Load.loadOf s .codelist) .0 (whole h))
-
-    back : (c : Codelist) → WellFormed c × IsText c s → loadedOf e s .outcome ≡ Accepted
-    unfolding loadedOf
-    back c w = let h = accepted-exactly .where-written s c .1 w in ap (λ (l : Rattle.codelist.specs.declared.Loaded.Loaded). loaded e (l .outcome) (l .codelist) .outcome) h
-
-    listed : (r : codelist.Refusal) → loadedOf e s .outcome ≡ Refused (refusal.the-variants.Load r) → RefusedFor s r
-    unfolding loadedOf
-    listed r h =
-        let o = was-refused (Load.loadOf s .outcome) (Load.loadOf s .codelist) r h in
-        refused-exactly .where-listed s r .0
-        (ap₂ (λ (o : loading.Outcome) (c : Codelist). record { outcome = o; codelist = c }) o (refused-empty s r o))
-
-    unlisted : (r : codelist.Refusal) → RefusedFor s r → loadedOf e s .outcome ≡ Refused (refusal.the-variants.Load r)
-    unfolding loadedOf
-    unlisted r w = let h = refused-exactly .where-listed s r .1 w in ap (λ (l : Rattle.codelist.specs.declared.Loaded.Loaded). loaded e (l .outcome) (l .codelist) .outcome) h
+use Rattle.engine.proofs.Loads.{not-both, is-in, decided, kept, load-number, written, back, listed, unlisted, from-load-table, to-load-table}
+use Rattle.engine.proofs.Formulas as formula
 
 -- ---- rating
 -- rated, with limits, or refused, with none
@@ -178,57 +104,12 @@ module _ (e : Engine) (xs : List ℤ) (r : rules.Refusal) where
   refused-back h = ap (λ (y : Rating). outcomeOf (y .outcome)) h
 
 -- ---- 01's tables by number and place
--- from the table of enums to that of numbers
-load-row : (s : List ℕ) (r : codelist.Refusal) → RefusedFor s r → LoadTable s (Load.numberOf r) (Load.placeOf r)
-load-row s codelist.the-variants.TooLong h = bytes h
-load-row s (codelist.the-variants.Malformed p) h = form h
-load-row s codelist.the-variants.FactorCount h = factors h
-load-row s codelist.the-variants.UnknownYear h = year h
-load-row s (codelist.the-variants.TooManyLines p) h = lines h
-load-row s codelist.the-variants.NoOperation h = no-operation h
-load-row s (codelist.the-variants.Reference p) h = reference h
-load-row s (codelist.the-variants.Exponent p) h = exponent h
-load-row s (codelist.the-variants.Constant p) h = constant h
-load-row s (codelist.the-variants.ZeroMultiplier p) h = multiplier h
-
 rate-row : (c : Codelist) (xs : List ℤ) (r : rules.Refusal) → Rules.RefusedFor c xs r → RateTable c xs (Rate.numberOf r) (Rate.placeOf r)
 rate-row c xs rules.the-variants.NoCodelist h = no-codelist h
 rate-row c xs rules.the-variants.RangeCount h = count h
 rate-row c xs (rules.the-variants.BadRange a) h = range h
 rate-row c xs (rules.the-variants.Divisor k) h = divisor h
 rate-row c xs (rules.the-variants.Overflow k) h = overflow h
-
-module _ (e : Engine) (s : List ℕ) where
-  load-refused : (r : codelist.Refusal) → RefusedFor s r → RefusedWith (loadedOf e s .outcome) (Load.numberOf r) (Load.placeOf r)
-  load-refused r w = record { refusal = refusal.the-variants.Load r; refused = unlisted e s r w; number = refl; place = refl }
-
-  from-load-table : {k p : ℕ} → LoadTable s k p → RefusedWith (loadedOf e s .outcome) k p
-  from-load-table (bytes h) = load-refused codelist.the-variants.TooLong h
-  from-load-table (form {line} h) = load-refused (codelist.the-variants.Malformed line) h
-  from-load-table (factors h) = load-refused codelist.the-variants.FactorCount h
-  from-load-table (year h) = load-refused codelist.the-variants.UnknownYear h
-  from-load-table (lines {line} h) = load-refused (codelist.the-variants.TooManyLines line) h
-  from-load-table (no-operation h) = load-refused codelist.the-variants.NoOperation h
-  from-load-table (reference {line} h) = load-refused (codelist.the-variants.Reference line) h
-  from-load-table (exponent {line} h) = load-refused (codelist.the-variants.Exponent line) h
-  from-load-table (constant {line} h) = load-refused (codelist.the-variants.Constant line) h
-  from-load-table (multiplier {line} h) = load-refused (codelist.the-variants.ZeroMultiplier line) h
-
-  -- loading refuses with a refusal of its own
-  load-own : (r : Refusal) → loadedOf e s .outcome ≡ Refused r → (q : codelist.Refusal) × (r ≡ refusal.the-variants.Load q)
-  unfolding loadedOf
-  load-own r h = go (Load.loadOf s .outcome) h
-    where
-      go : (o : loading.Outcome) → loaded e o (Load.loadOf s .codelist) .outcome ≡ Refused r → (q : codelist.Refusal) × (r ≡ refusal.the-variants.Load q)
-      go loading.the-variants.Accepted h = not-both h
-      go (loading.the-variants.Refused q) h = (q, cc)
-
-  to-load-table : {k p : ℕ} → RefusedWith (loadedOf e s .outcome) k p → LoadTable s k p
-  to-load-table w =
-      let own = load-own (w .refusal) (w .refused) in
-      let q = own .0 in
-      let t = load-row s q (listed e s q (w .refused ∙ ap Refused (own .1))) in
-      rw (← (w .number), ← (w .place), own .1) t
 
 module _ (e : Engine) (xs : List ℤ) where
   table : (r : rules.Refusal) → (ratedOf e xs .outcome ≡ Refused (refusal.the-variants.Rate r)) ↔ Rules.RefusedFor (e .codelist) xs r
@@ -294,4 +175,14 @@ demands = record {
   sound = λ e xs h p i. sound (e .codelist) xs (ratedOf e xs .limits) (accepted-rating e xs h) p i;
   sisters = λ e xs h p q i j. sisters (e .codelist) xs (ratedOf e xs .limits) (accepted-rating e xs h) p q i j;
   vanishing = λ e xs h p j is. vanishing (e .codelist) xs (ratedOf e xs .limits) (accepted-rating e xs h) p j is;
+  formula-decided = formula.decided;
+  formula-numbers = formula.numbers;
+  formula-kept = formula.kept;
+  formula-loaded = formula.is-loaded;
+  formula-accepted = formula.accepted;
+  formula-table = λ e s k number place. (formula.to-table e s k, formula.from-table e s k);
+  formula-text = formula.text-refused;
+  formula-constants = formula.constants-refused;
+  formula-refused = formula.sheet-refused;
+  formula-premium = formula.premium;
 }

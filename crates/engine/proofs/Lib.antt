@@ -1,3 +1,5 @@
+pub mod Loads
+pub mod Formulas
 pub mod Demands
 pub mod Validity
 pub mod Exchange

@@ -1,5 +1,5 @@
--- The buyer's three demands, of what `load` and `rate` give: proved in proofs/Demands.antt. Every call has an outcome for every value of its parameters,
--- since `loadedOf` and `ratedOf` are functions and the contracts of `load` and `rate` are equations with no condition.
+-- The buyer's three demands, of what `load`, `load_formula` and `rate` give: proved in proofs/Demands.antt. Every call has an outcome for every value of
+-- its parameters, since `loadedOf`, `formulaLoadedOf` and `ratedOf` are functions and the contracts are equations with no condition.
 use mathlib.Core.Path.{_≡_}
 use mathlib.Core.List.{List, List·Memᴰ}
 use mathlib.Core.Logic.{_↔_, _⊎_}
@@ -10,7 +10,7 @@ use Rattle.codelist.specs.declared.Codelist.{Codelist}
 use Rattle.codelist.specs.declared.Year.the-variants.{Y2016, Y2014}
 use Rattle.codelist.specs.declared.Refusal as codelist
 use Rattle.codelist.specs.Codelist.{WellFormed}
-use Rattle.codelist.specs.Load.{loadNumbers}
+use Rattle.codelist.specs.Load.{loadNumbers, accepted, loadOf}
 use Rattle.codelist.specs.Refused.{RefusedFor}
 use Rattle.codelist.specs.Write.{IsText}
 use Rattle.rules.specs.declared.Refusal.the-variants.{NoCodelist}
@@ -22,12 +22,19 @@ use Rattle.rules.specs.Refused as Rules
 use Rattle.rules.specs.Promises.{Inside, Sound, Vanishing, Shaped}
 use Rattle.rules.specs.Years.{Nested, AllBent}
 use Rattle.rules.specs.Sisters.{Sisters}
+use Rattle.formulas.specs.declared.Refusal.the-variants.{Text, Constants}
+use Rattle.formulas.specs.Grammar.{Tree, Writes}
+use Rattle.formulas.specs.Viable.{Fails}
+use Rattle.formulas.specs.Value.{valueOf, premiumValue}
+use Rattle.formulas.specs.Convert.{Mixes, Bare}
+use Rattle.formulas.specs.Load.{formulaNumbers}
+use Rattle.formulas.specs.Exactly.{Spells, Becomes}
 use Rattle.engine.specs.declared.Engine.{Engine}
 use Rattle.engine.specs.declared.Refusal as refusal
 use Rattle.engine.specs.declared.Refusal.{Refusal}
 use Rattle.engine.specs.declared.Outcome.the-variants.{Accepted, Refused}
-use Rattle.engine.specs.Engine.{numberOf, emptyEngine, loadedOf, asRating, ratedOf}
-use Rattle.engine.specs.Refusals.{RefusedWith, LoadTable, RateTable}
+use Rattle.engine.specs.Engine.{numberOf, emptyEngine, loadedOf, formulaLoadedOf, asRating, ratedOf}
+use Rattle.engine.specs.Refusals.{RefusedWith, LoadTable, FormulaTable, RateTable}
 
 pub record Demands : Type 0 where
   -- 1. "gets the whole result or one numbered refusal of paper 01 with its place"
@@ -79,3 +86,26 @@ pub record Demands : Type 0 where
   -- "Outside P the exact first derivative is 0; outside B every exact second derivative with that factor is 0": at every point that has a premium
   pub vanishing : (e : Engine) (xs : List ℤ) → ratedOf e xs .outcome ≡ Accepted → (p : Point) (premium : Jet)
       → premiumOf (e .codelist) p ≡ some premium → Vanishing (ratedOf e xs .limits) premium
+  -- 02, request 12, loading a formula. 1. An accepted load or one numbered refusal, of 19, 20 and loading's, after which the engine is as it was
+  pub formula-decided : (e : Engine) (s : List ℕ) (k : ℕ)
+      → (formulaLoadedOf e s k .outcome ≡ Accepted) ⊎ ((r : Refusal) × (formulaLoadedOf e s k .outcome ≡ Refused r))
+  pub formula-numbers : (e : Engine) (s : List ℕ) (k : ℕ) (r : Refusal) → formulaLoadedOf e s k .outcome ≡ Refused r
+      → List·Memᴰ (numberOf r) formulaNumbers
+  pub formula-kept : (e : Engine) (s : List ℕ) (k : ℕ) (r : Refusal) → formulaLoadedOf e s k .outcome ≡ Refused r → formulaLoadedOf e s k .engine ≡ e
+  -- 2. "The resulting sheet is loaded as any other, in the same call"
+  pub formula-loaded : (e : Engine) (s : List ℕ) (k : ℕ) (x : List ℕ) → Becomes s k x → formulaLoadedOf e s k ≡ loadedOf e x
+  -- accepted exactly where the text is a formula that becomes a sheet, and loading accepts that
+  pub formula-accepted : (e : Engine) (s : List ℕ) (k : ℕ)
+      → (formulaLoadedOf e s k .outcome ≡ Accepted) ↔ ((x : List ℕ) × (Becomes s k x × ((c : Codelist) × (loadOf x ≡ accepted c))))
+  -- each number and place exactly where the tables have it, and the same by the enums: 19 by the grammar, 20 by its condition on the formula, any other
+  -- by the sheet's own
+  pub formula-table : (e : Engine) (s : List ℕ) (k number place : ℕ) → RefusedWith (formulaLoadedOf e s k .outcome) number place ↔ FormulaTable s k number place
+  pub formula-text : (e : Engine) (s : List ℕ) (k p : ℕ) → (formulaLoadedOf e s k .outcome ≡ Refused (refusal.the-variants.Formula (Text p))) ↔ Fails s p
+  pub formula-constants : (e : Engine) (s : List ℕ) (k : ℕ)
+      → (formulaLoadedOf e s k .outcome ≡ Refused (refusal.the-variants.Formula Constants)) ↔ ((t : Tree) × (Spells t s × (Mixes t ⊎ Bare t)))
+  pub formula-refused : (e : Engine) (s : List ℕ) (k : ℕ) (r : codelist.Refusal)
+      → (formulaLoadedOf e s k .outcome ≡ Refused (refusal.the-variants.Load r)) ↔ ((x : List ℕ) × (Becomes s k x × RefusedFor x r))
+  -- 3. "Wherever the formula is defined, the sheet's exact premium equals it", and where it is not, there is none; so what is said of the premium above
+  -- is said of the formula
+  pub formula-premium : (e : Engine) (s : List ℕ) (k : ℕ) (t : Tree) → formulaLoadedOf e s k .outcome ≡ Accepted → Writes t s
+      → (p : Point) → premiumValue (premiumOf (formulaLoadedOf e s k .engine .codelist) p) ≡ valueOf t p

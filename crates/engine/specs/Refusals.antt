@@ -2,6 +2,7 @@
 -- are checked before it included.
 use mathlib.Core.Path.{_≡_}
 use mathlib.Core.List.{List}
+use mathlib.Core.Logic.{_⊎_}
 use Prim.Native.Nat.{ℕ}
 use lib.IntN.{ℤ}
 use Rattle.codelist.specs.declared.Codelist.{Codelist}
@@ -10,6 +11,10 @@ use Rattle.codelist.specs.declared.Refusal.the-variants.{Exponent, Constant, Ze
 use Rattle.codelist.specs.Refused as Load
 use Rattle.rules.specs.declared.Refusal.the-variants.{NoCodelist, RangeCount, BadRange, Divisor, Overflow}
 use Rattle.rules.specs.Refused as Rate
+use Rattle.formulas.specs.Grammar.{Tree}
+use Rattle.formulas.specs.Viable.{Fails}
+use Rattle.formulas.specs.Convert.{Mixes, Bare}
+use Rattle.formulas.specs.Exactly.{Spells, Becomes}
 use Rattle.engine.specs.declared.Refusal.{Refusal}
 use Rattle.engine.specs.declared.Outcome.{Outcome}
 use Rattle.engine.specs.declared.Outcome.the-variants.{Refused}
@@ -43,6 +48,14 @@ pub data LoadTable (s : List ℕ) : ℕ → ℕ → Type 0 where
   constant : {line : ℕ} → Load.RefusedFor s (Constant line) → LoadTable s 7 line
   -- 15 | `mulc` with the constant 0 | text line (02, request 5)
   multiplier : {line : ℕ} → Load.RefusedFor s (ZeroMultiplier line) → LoadTable s 15 line
+
+-- Loading a formula's text s with the factor count k (02, request 12): 19, then 20, then the table above, of the sheet that the text becomes
+pub data FormulaTable (s : List ℕ) (k : ℕ) : ℕ → ℕ → Type 0 where
+  -- 19 | text outside the rules | the first byte that can't follow, from 1
+  text : {place : ℕ} → Fails s place → FormulaTable s k 19 place
+  -- 20 | two constants meeting, a constant divisor, a powered constant, or no operation | 0
+  constants : {t : Tree} → Spells t s → Mixes t ⊎ Bare t → FormulaTable s k 20 0
+  sheet : {x : List ℕ} {number place : ℕ} → Becomes s k x → LoadTable x number place → FormulaTable s k number place
 
 -- The two rows of that table on ranges, and "Refusals that come from the state", of rating the numbers xs against the codelist c
 pub data RateTable (c : Codelist) (xs : List ℤ) : ℕ → ℕ → Type 0 where

@@ -12,7 +12,8 @@ use Rattle.engine.specs.declared.Outcome.the-variants.{Accepted}
 use Rattle.engine.specs.declared.Refusal.{Refusal}
 use Rattle.engine.specs.declared.Refusal.the-variants.{Rate}
 use Rattle.engine.specs.Engine.{ratedOf}
-use Rattle.engine.proofs.Demands.{not-both, demands}
+use Rattle.engine.proofs.Loads.{not-both}
+use Rattle.engine.proofs.Demands.{demands}
 use Rattle.increments.specs.declared.Difference.{Difference}
 use Rattle.increments.specs.Call.{differenceOf, refusedWith, sistersOf}
 use Rattle.increments.specs.Promises.{one, other, Bounded, Exact, SistersCall}
