@@ -1,21 +1,17 @@
 -- The three demands, of what the engine's calls give. Assumes nothing.
-use mathlib.Core.Path.{_≡_, refl, sym, ap, ap₂, _∙_}
-use mathlib.Core.List.{List, [], _∷_, List·Memᴰ, List·Memᴰ·head, List·Memᴰ·tail}
+use mathlib.Core.Path.{_≡_, refl, sym, ap, _∙_}
+use mathlib.Core.List.{List, List·Memᴰ}
 use mathlib.Core.Logic.{_↔_, _⊎_, inl, inr}
 use mathlib.Core.Bool.{Bool, true, false, cond}
-use Prim.Native.Nat.{ℕ, zero, suc, _*_, _<_}
-use native.Mathlib.Omega.{arith}
+use Prim.Native.Nat.{ℕ, zero, suc, _*_}
 use lib.Dec.{lit≤, eqb}
 use lib.IntN.{ℤ}
-use lib.ListN.{length, getD}
-use Rattle.codelist.specs.declared.Outcome as loading
+use lib.ListN.{length}
 use Rattle.codelist.specs.declared.Refusal as codelist
 use Rattle.codelist.specs.declared.Codelist.{Codelist}
 use Rattle.codelist.specs.Codelist.{WellFormed, ratable}
 use Rattle.codelist.specs.Load as Load
 use Rattle.codelist.specs.Refused.{RefusedFor}
-use Rattle.codelist.specs.Write.{IsText}
-use Rattle.codelist.proofs.Accepted.{accepted-exactly, refused-empty}
 use Rattle.codelist.proofs.Ratable.{well-formed-ratable}
 use Rattle.codelist.proofs.Refused.{refused-exactly}
 use Rattle.rules.specs.declared.Refusal as rules
@@ -35,9 +31,8 @@ use Rattle.rules.proofs.Refused as rates
 use Rattle.engine.specs.declared.Engine.{Engine}
 use Rattle.engine.specs.declared.Refusal as refusal
 use Rattle.engine.specs.declared.Refusal.{Refusal}
-use Rattle.engine.specs.declared.Outcome.{Outcome}
 use Rattle.engine.specs.declared.Outcome.the-variants.{Accepted, Refused}
-use Rattle.engine.specs.Engine.{numberOf, placeOf, emptyEngine, loaded, loadedOf, outcomeOf, asRating, ratedOf}
+use Rattle.engine.specs.Engine.{numberOf, placeOf, emptyEngine, loadedOf, outcomeOf, asRating, ratedOf}
 use Rattle.engine.specs.Refusals.{RefusedWith, RateTable, count, range, no-codelist, divisor, overflow}
 use Rattle.engine.specs.Demands.{Demands}
 use Rattle.engine.proofs.Loads.{not-both, is-in, decided, kept, load-number, written, back, listed, unlisted, from-load-table, to-load-table}

@@ -1,7 +1,7 @@
 -- Loading a formula: 19, 20, or what loading its sheet gives. Assumes nothing.
 use mathlib.Core.Path.{_≡_, refl, sym, ap, subst, _∙_}
 use mathlib.Core.List.{List, List·Memᴰ, List·Memᴰ·tail}
-use mathlib.Core.Logic.{_↔_, _⊎_, inl, inr}
+use mathlib.Core.Logic.{_↔_, _⊎_, inr}
 use Prim.Native.Nat.{ℕ}
 use native.Mathlib.Omega.{arith}
 use lib.Dec.{lit≤}
@@ -25,9 +25,8 @@ use Rattle.engine.specs.declared.Engine.{Engine}
 use Rattle.engine.specs.declared.Refusal as refusal
 use Rattle.engine.specs.declared.Refusal.{Refusal}
 use Rattle.engine.specs.declared.Loading.{Loading}
-use Rattle.engine.specs.declared.Outcome.{Outcome}
 use Rattle.engine.specs.declared.Outcome.the-variants.{Accepted, Refused}
-use Rattle.engine.specs.Engine.{numberOf, placeOf, loadedOf, formulaLoaded, formulaLoadedOf}
+use Rattle.engine.specs.Engine.{numberOf, loadedOf, formulaLoaded, formulaLoadedOf}
 use Rattle.engine.specs.Refusals.{RefusedWith, FormulaTable, text, constants, sheet}
 use Rattle.engine.proofs.Loads as Loads
 use Rattle.engine.proofs.Loads.{not-both, is-in, load-own}

@@ -1,12 +1,12 @@
 -- What the program prints: the first line, what follows it, and the sheet or the refusal in the bytes that hold it.
 use Prim.Native.Nat.{ℕ, _+_, _-_, _≤_, _<_}
-use mathlib.Core.Bool.{Bool, true, false, cond, true≢false, false≢true}
-use mathlib.Core.List.{List, [], _∷_, _++_}
-use mathlib.Core.Path.{_≡_, refl, sym, ap, subst, _∙_}
+use mathlib.Core.Bool.{true, false, cond, true≢false, false≢true}
+use mathlib.Core.List.{List}
+use mathlib.Core.Path.{_≡_, refl, sym, ap, _∙_}
 use native.Mathlib.Decide.{decLt}
 use native.Mathlib.Omega.{arith}
 use lib.Dec.{eqb, leb}
-use lib.ListN.{length, take, drop, getD, replicate, length-drop, drop-of-length-le}
+use lib.ListN.{length, take, drop, getD, length-drop, drop-of-length-le}
 use lib.Seq.{take-all, getD-drop, drop-append-seam}
 use borrow.Author.Tests.{lt-leb}
 use Rattle.codelist.specs.declared.Loaded.{Loaded}
@@ -20,7 +20,7 @@ use Rattle.codelist.specs.Text.{factors→}
 use Rattle.codelist.proofs.LineTexts.{literal-sound}
 use Rattle.writer.specs.Lent.{lent}
 use Rattle.writer.specs.Texts.{refusedText}
-use Rattle.formulas.specs.Load.{Given, given, firstBytes, sheetFor}
+use Rattle.formulas.specs.Load.{given, firstBytes, sheetFor}
 use Rattle.formulas.specs.Answer.{countLine, sheetPrinted, printed, isEnded, textIn, afterFirst, inBytes}
 use Rattle.formulas.proofs.Sheets.{Front, front-loads}
 
@@ -85,7 +85,7 @@ module _ (s : List ℕ) (from : ℕ) where
 -- ════ the sheet ════
 
 -- one that is accepted is not too long, and stands in the bytes whole
-accepted-short : (x : List ℕ) → loadOf x .outcome ≡ loading.the-variants.Accepted → length x ≤ 4096
+pub accepted-short : (x : List ℕ) → loadOf x .outcome ≡ loading.the-variants.Accepted → length x ≤ 4096
 unfolding loadOf
 accepted-short x e = go (decLt 4096 (length x))
   where

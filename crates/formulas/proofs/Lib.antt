@@ -21,3 +21,4 @@ pub mod WrittenLines
 pub mod Doing
 pub mod Sheets
 pub mod Answers
+pub mod Printed

@@ -23,10 +23,10 @@ use Rattle.formulas.specs.declared.reader.Read.the-variants.{Good, Stuck
 use Rattle.formulas.specs.declared.reader.State.{State}
 use Rattle.formulas.specs.Grammar.{Tree, deepest, longest}
 use Rattle.formulas.specs.Convert.{Conversion, operand, mixed, countOf, convert, linesText, sheetText, sheetFrom, sheetOf}
-use Rattle.formulas.specs.Read.{Found, good, stuck, sumAt, atomAt, Parsed, tree, fault, ended, placeIn, parse}
+use Rattle.formulas.specs.Read.{good, stuck, sumAt, atomAt, tree, fault, ended, placeIn, parse}
 use Rattle.formulas.specs.Load.{Given, given, refused, fromSheet, fromParsed, sheetFor, loadedSheet, formulaOf, firstBytes, answered, convertedOf, bufferAfter}
 use Rattle.formulas.specs.Load.{bufferOf}
-use Rattle.formulas.specs.Views.{Inside, Drafts, Draft, Holds, HoldsAll, Does, startAt}
+use Rattle.formulas.specs.Views.{Inside, Drafts, HoldsAll, Does, startAt}
 use Rattle.formulas.proofs.Doing.{Works, stuck-of, good-of}
 use Rattle.formulas.proofs.Laws.{inside-at}
 use Rattle.formulas.proofs.Exactly.{short, long}

@@ -5,7 +5,7 @@ use mathlib.Core.List.{List, [], _∷_, _++_, append-assoc, append-nil}
 use mathlib.Core.Path.{_≡_, refl, sym, ap, subst, _∙_}
 use native.Mathlib.Omega.{arith}
 use lib.IntN.{ℤ, natAbs}
-use lib.ListN.{length, length-append}
+use lib.ListN.{length-append}
 use Rattle.codelist.specs.Load.{saturated, valueOf}
 use Rattle.codelist.specs.Text.{TextLine, Inv, two, lineText, absent, firstText, factors→, inv→}
 use Rattle.codelist.specs.Write.{plain, numeralOf}

@@ -1,6 +1,5 @@
 -- What a formula is worth at a point. 02, request 12: "Wherever the formula is defined, the sheet's exact premium equals it".
-use Prim.Native.Nat.{ℕ, _-_}
-use mathlib.Core.List.{List}
+use Prim.Native.Nat.{_-_}
 use mathlib.Core.Option.{Option, none, some}
 use lib.IntN.{pos}
 use Rattle.exact.specs.Rat.{ℚ, _+ℚ_, _-ℚ_, _*ℚ_, _^ℚ_, recip}

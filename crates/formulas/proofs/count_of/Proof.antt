@@ -3,8 +3,6 @@ use borrow.Author.Tests.{le-leb, lt-leb}
 use Rattle.formulas.specs.Convert.{countOf}
 use Rattle.formulas.proofs.count_of.Statement.{statement}
 use Rattle.formulas.proofs.count_of.Tie as tie
-use Rattle.formulas.proofs.count_of.Reads as reads
-use Rattle.formulas.proofs.count_of.Lts as lts
 
 returns : tie.Need-returns
 unfolding countOf

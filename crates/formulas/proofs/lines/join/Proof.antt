@@ -1,5 +1,4 @@
 -- `lines::join` meets its contract: a line or a constant on each side.
-use native.Mathlib.Omega.{arith}
 use Rattle.formulas.specs.Convert.{fixed, line}
 use Rattle.formulas.specs.Views.{signOf}
 use Rattle.formulas.proofs.WrittenLines.{makes, kept, short-of, by-left, two-fixed}
