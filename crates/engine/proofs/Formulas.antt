@@ -128,8 +128,8 @@ module _ (e : Engine) (s : List ℕ) (k : ℕ) where
   formula-own : (r : formulas.Refusal) → (formulaLoadedOf e s k .outcome ≡ Refused (refusal.the-variants.Formula r)) ↔ (formulaOf s k ≡ refused r)
   formula-own r = (
     either (λ l. l .outcome ≡ Refused (refusal.the-variants.Formula r) → formulaOf s k ≡ refused r)
-    (λ x b h. let (q, f) = load-own e x (refusal.the-variants.Formula r) h in apart (ap Refused f))
-    (λ q h g. let d : q ≡ r = cc g in h ∙ ap refused d),
+        (λ x b h. let (q, f) = load-own e x (refusal.the-variants.Formula r) h in apart (ap Refused f))
+        (λ q h g. let d : q ≡ r = cc g in h ∙ ap refused d),
     λ h. ap (λ (l : Loading). l .outcome) (is-refused r h),
   )
 
@@ -150,7 +150,7 @@ module _ (e : Engine) (s : List ℕ) (k : ℕ) where
       → (formulaLoadedOf e s k .outcome ≡ Refused (refusal.the-variants.Load r)) ↔ ((x : List ℕ) × (Becomes s k x × RefusedFor x r))
   sheet-refused r = (
     either (λ l. l .outcome ≡ Refused (refusal.the-variants.Load r) → (x : List ℕ) × (Becomes s k x × RefusedFor x r))
-    (λ x b h. (x, (b, Loads.listed e x r h))) (λ q h g. apart g),
+        (λ x b h. (x, (b, Loads.listed e x r h))) (λ q h g. apart g),
     λ (x, (b, h)). ap (λ (l : Loading). l .outcome) (is-loaded x b) ∙ Loads.unlisted e x r h,
   )
 

@@ -161,7 +161,7 @@ reads-enough s = go (countLine s) refl
         let (n, t) = count-sound (take 2048 s) w u e in
         let g : countLine s ≡ good w (u ++ drop 2048 s)
         = ap countLine (sym (take-append-drop 2048 s) ∙ ap (λ (l : List ℕ). l ++ drop 2048 s) t ∙ append-assoc (firstLine w) u (drop 2048 s))
-            ∙ count-complete w (u ++ drop 2048 s) n in
+        ∙ count-complete w (u ++ drop 2048 s) n in
         absurd (let z : _≡_ {A = ℕ} 0 1 = cc (g, f) in omega arith)
 
     go : (r : Read Numeral) → countLine s ≡ r → answerOf (take 2048 s) ≡ answerOf s
@@ -172,7 +172,7 @@ reads-enough s = go (countLine s) refl
         let i : 2048 ≡ length (firstLine w) + m = omega (arith, first-short w) in
         let f : countLine (take 2048 s) ≡ good w (take m u)
         = ap countLine (ap (λ (j : ℕ). take j s) i ∙ ap (take (length (firstLine w) + m)) t ∙ take-append-add (firstLine w) u m)
-            ∙ count-complete w (take m u) n in
+        ∙ count-complete w (take m u) n in
         after (take 2048 s) w (take m u) f ∙ after-enough m u (countIn w) (omega (arith, first-short w)) ∙ sym (after s w u e)
 
 pub formula-prints : FormulaPrints

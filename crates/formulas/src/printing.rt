@@ -59,14 +59,22 @@ fn printed(text: &[u8], count: u64) -> Output
 fn unended(len: usize) -> Output
     ensures { λ r. ⌜ lent (r .bytes) (r .len) ≡ inBytes (cond (leb len 1024) (refusedText 2 2) (refusedText 19 1025)) ⌝ }
 {
-    if len <= LONGEST { refused(2, 2) } else { refused(19, 1025) }
+    if len <= LONGEST {
+        refused(2, 2)
+    } else {
+        refused(19, 1025)
+    }
 }
 
 // Whether what stands from a place on is ended by byte 10.
 fn is_ended(input: &[u8], from: usize) -> bool
     ensures { λ r. ⌜ r ≡ isEnded (drop from (now (input .entry))) ⌝ }
 {
-    if from < input.len() { input[input.len() - 1] == LINE_END } else { false }
+    if from < input.len() {
+        input[input.len() - 1] == LINE_END
+    } else {
+        false
+    }
 }
 
 // What follows the first line, from a place on.
