@@ -125,6 +125,15 @@ fn load(e: Engine, text: &[u8]) -> Engine {
     l.engine
 }
 
+// The same of a formula.
+fn load_formula(e: Engine, text: &[u8], factors: u64) -> Engine {
+    let l = e.load_formula(text, factors);
+    let outcome = l.outcome;
+    say(b"formula: ", number(outcome), place(outcome));
+    word(b"\n");
+    l.engine
+}
+
 fn rate(e: Engine, ranges: &[i64]) {
     let r = e.rate(ranges);
     let outcome = r.outcome;
@@ -203,6 +212,30 @@ fn inverse(e: Engine) {
     rate_one(e, 10_000, 30_000);
 }
 
+// A formula that is to be refused: the engine rates the sum as before.
+fn keeps_sum(e: Engine, text: &[u8], factors: u64) -> Engine {
+    let after = load_formula(e, text, factors);
+    rate_two(after, 0, 10_000);
+    after
+}
+
+// Formulas (02, request 12): the sum of two squares; 19 by a byte, by the end and by the length, 20, and what loading their sheets refuses; then the square.
+fn formulas(e: Engine) {
+    let e = keeps_sum(e, b"f1^2+f2^2", 2);
+    let e = keeps_sum(e, b"f1^2+f9", 2);
+    let e = keeps_sum(e, b"f1^2+", 2);
+    let long = [b'f'; 1025];
+    let e = keeps_sum(e, &long, 2);
+    let e = keeps_sum(e, b"2*3*f1", 2);
+    let e = keeps_sum(e, b"f1^2", 9);
+    let e = keeps_sum(e, b"f1+f3", 2);
+    let e = keeps_sum(e, b"f1^9", 2);
+    let e = keeps_sum(e, b"f1+200000.0001", 2);
+    let e = keeps_sum(e, b"f1-0*f2", 2);
+    let e = load_formula(e, b"f1^2", 1);
+    rate_one(e, 10_000, 30_000);
+}
+
 // An engine that was not loaded but written down, with `mulc→1→c`: by 0 it is one that no accepted load leaves and counts as empty, 10 before 8 and 9;
 // by one unit it is rated.
 fn written_down(c: i64) {
@@ -228,6 +261,7 @@ fn main() {
     let e = refused_later(e);
     let e = replaced(e);
     inverse(e);
+    formulas(e);
     written_down(0);
     written_down(1);
 }
