@@ -78,8 +78,9 @@ fn negated(c: u64) -> i64
 fn mixed(st: State) -> State
     ensures { λ r. ⌜ r ≡ withoutLine st ⌝ }
 {
+    let at = st.at; // what follows is read all the same: 19 comes before 20
     State {
-        at: st.at,
+        at: at,
         operand: Operand::Fixed(0),
         lines: st.lines,
         len: st.len,
