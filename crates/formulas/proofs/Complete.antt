@@ -1,20 +1,19 @@
 -- Every formula is read: the reader finds the tree that wrote the text, where nothing follows that it could take for more of it.
-use Prim.Native.Nat.{ℕ, suc, zero, _+_, _-_, _≤_, _<_}
-use mathlib.Core.Bool.{Bool, true, false, cond, _&&_}
+use Prim.Native.Nat.{ℕ, suc, zero, _+_, _-_, _≤_}
 use mathlib.Core.List.{List, [], _∷_, _++_, append-assoc, append-nil}
 use mathlib.Core.Option.{Option, none, some}
 use mathlib.Core.Path.{_≡_, refl, sym, ap, subst, _∙_}
 use native.Mathlib.Decide.{ℕ-discrete}
 use native.Mathlib.Omega.{arith}
-use lib.Dec.{ltb, leb, eqb, lit<, lit≤}
+use lib.Dec.{lit≤}
 use lib.ListN.{length, length-append}
-use borrow.Author.Tests.{lt-ltb, le-ltb, le-leb, eq-eqb, ne-eqb}
+use borrow.Author.Tests.{lt-ltb, le-ltb, le-leb, ne-eqb}
 use Rattle.codelist.specs.Read.{peek, rest, digit}
 use Rattle.codelist.proofs.NumeralTexts.{digit-is}
 use Rattle.formulas.specs.Grammar.{Tree, factor, constant, bracket, power, join, Sign, plus, minus, times, over, signByte, digitsText}
 use Rattle.formulas.specs.Grammar.{decimalsText, textOf, rank, Each, Digits, Stands, atom, powered, product, sum, deepest}
-use Rattle.formulas.specs.Read.{Found, good, stuck, andThen, digitsUpTo, digitAnd, decimalsAfter, constantAt, factorAt, leafAt, closed}
-use Rattle.formulas.specs.Read.{bracketOr, exponent, exponentAfter, poweredAt, sumSign, productSign, onSign, chain, productAt, sumAt, atomAt}
+use Rattle.formulas.specs.Read.{Found, good, andThen, digitsUpTo, digitAnd, decimalsAfter, constantAt, factorAt, leafAt, closed}
+use Rattle.formulas.specs.Read.{exponent, exponentAfter, poweredAt, sumSign, productSign, chain, productAt, sumAt, atomAt}
 
 -- ════ what may follow ════
 
@@ -103,7 +102,12 @@ module _ (room : ℕ) (a : List ℕ → Found Tree) (atoms : Complete (Stands at
   raised : (t : Tree) (m : ℕ) (u : List ℕ) → Stands atom room t → m ≤ 9 → poweredAt a (textOf (power t m) ++ u) ≡ good (power t m) u
   unfolding poweredAt exponentAfter exponent textOf peek rest
   raised t m u i h =
-      simp (append-assoc (textOf t) (94 ∷ (48 + m) ∷ []) u, atoms t (94 ∷ (48 + m) ∷ u) i ends-caret, digit-is m (omega arith), lt-ltb m 10 (omega arith))
+      simp (
+        append-assoc (textOf t) (94 ∷ (48 + m) ∷ []) u,
+        atoms t (94 ∷ (48 + m) ∷ u) i ends-caret,
+        digit-is m (omega arith),
+        lt-ltb m 10 (omega arith),
+      )
 
   powered-complete : Complete (Stands powered room) Ends₁ (poweredAt a)
   powered-complete (factor i) u s e = alone (factor i) u s e

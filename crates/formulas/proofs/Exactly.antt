@@ -1,19 +1,16 @@
 -- Reading a formula promises what specs/Exactly.antt says.
-use Prim.Native.Nat.{ℕ, suc, zero, _+_, _-_, _≤_, _<_}
-use mathlib.Core.Bool.{Bool, true, false, cond}
+use Prim.Native.Nat.{ℕ, _+_, _-_, _≤_, _<_}
 use mathlib.Core.List.{List, [], _∷_, _++_, append-assoc, append-nil}
 use mathlib.Core.Logic.{_↔_, _⊎_, inl, inr}
 use mathlib.Core.Path.{_≡_, refl, sym, ap, subst, _∙_}
 use native.Mathlib.Decide.{decLt}
 use native.Mathlib.Nat.{sub-zero}
-use native.Mathlib.Numerals.{add-one}
 use native.Mathlib.Omega.{arith}
-use lib.Dec.{leb}
 use lib.ListN.{length, take, drop, length-append, take-append-drop}
 use lib.Seq.{take-append-seam, take-append-add, take-take, take-length}
 use borrow.Author.Tests.{le-leb, lt-leb}
 use Rattle.codelist.specs.Read.{peek}
-use Rattle.formulas.specs.Grammar.{Tree, Writes, Formula, Stands, textOf, sum, deepest, longest}
+use Rattle.formulas.specs.Grammar.{Tree, Writes, Formula, deepest, longest}
 use Rattle.formulas.specs.Viable.{Viable, Fails, longer, at-byte, stops-early}
 use Rattle.formulas.specs.Read.{Found, good, stuck, sumAt, atomAt, Parsed, tree, fault, ended, placeIn, parse}
 use Rattle.formulas.specs.Exactly.{Spells}
@@ -104,7 +101,9 @@ to-fails s p e = go (decLt longest (length s))
     by-result h (stuck []) d f =
         let g = formula-read .halts s [] tt d in
         let e : s ≡ g .took = g .split ∙ append-nil (g .took) in
-        at _ f (subst (λ (n : ℕ). Fails s (n + 1)) (sym (sub-zero (length s))) (stops-early h (g .more, (g .some, record { stands = g .is; text = ap (λ (l : List ℕ). l ++ g .more) e ∙ sym (g .whole) })) λ v.
+        let t = ap (λ (l : List ℕ). l ++ g .more) e ∙ sym (g .whole) in
+        at _ f (subst (λ (n : ℕ). Fails s (n + 1)) (sym (sub-zero (length s)))
+        (stops-early h (g .more, (g .some, record { stands = g .is; text = t })) λ v.
         good-stuck (v .0) [] [] (sym (written s (v .0) (v .1)) ∙ d)))
     by-result h (stuck (b ∷ u)) d f =
         let g = formula-read .halts s (b ∷ u) tt d in

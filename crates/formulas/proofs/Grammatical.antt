@@ -213,7 +213,7 @@ pub record Signs (signs : ℕ → Option Sign) (r : ℕ) : Type 0 where
   pub byte : (b : ℕ) (o : Sign) → signs b ≡ some o → b ≡ signByte o
   pub rank : (b : ℕ) (o : Sign) → signs b ≡ some o → rank o ≡ r
 
-byte-of-sign : (o : Sign) → signByte o < 256
+pub byte-of-sign : (o : Sign) → signByte o < 256
 byte-of-sign plus = omega arith
 byte-of-sign minus = omega arith
 byte-of-sign times = omega arith
@@ -350,7 +350,10 @@ module _ (signs : ℕ → Option Sign) (r room : ℕ) (g : Signs signs r) (a : L
 
 pub product-signs : Signs productSign product
 unfolding productSign
-product-signs = record { byte = λ b o e. go b o (ℕ-discrete b 42) (ℕ-discrete b 47) e .0; rank = λ b o e. go b o (ℕ-discrete b 42) (ℕ-discrete b 47) e .1 }
+product-signs = record {
+  byte = λ b o e. go b o (ℕ-discrete b 42) (ℕ-discrete b 47) e .0;
+  rank = λ b o e. go b o (ℕ-discrete b 42) (ℕ-discrete b 47) e .1;
+}
   where
     go : (b : ℕ) (o : Sign) → Dec (b ≡ 42) → Dec (b ≡ 47) → productSign b ≡ some o → (b ≡ signByte o) × (rank o ≡ product)
     go b o (yes p) q e =
@@ -363,7 +366,10 @@ product-signs = record { byte = λ b o e. go b o (ℕ-discrete b 42) (ℕ-discre
 
 pub sum-signs : Signs sumSign sum
 unfolding sumSign
-sum-signs = record { byte = λ b o e. go b o (ℕ-discrete b 43) (ℕ-discrete b 45) e .0; rank = λ b o e. go b o (ℕ-discrete b 43) (ℕ-discrete b 45) e .1 }
+sum-signs = record {
+  byte = λ b o e. go b o (ℕ-discrete b 43) (ℕ-discrete b 45) e .0;
+  rank = λ b o e. go b o (ℕ-discrete b 43) (ℕ-discrete b 45) e .1;
+}
   where
     go : (b : ℕ) (o : Sign) → Dec (b ≡ 43) → Dec (b ≡ 45) → sumSign b ≡ some o → (b ≡ signByte o) × (rank o ≡ sum)
     go b o (yes p) q e =

@@ -1,9 +1,8 @@
+-- `reader::product_sign` meets its contract: the byte is compared with `*`, then with `/`.
 use borrow.Author.Tests.{eq-eqb, ne-eqb}
 use Rattle.formulas.specs.Read.{productSign}
 use Rattle.formulas.proofs.reader.product_sign.Statement.{statement}
 use Rattle.formulas.proofs.reader.product_sign.Tie as tie
-use Rattle.formulas.proofs.reader.product_sign.Reads as reads
-use Rattle.formulas.proofs.reader.product_sign.Lts as lts
 
 returns : tie.Need-returns
 unfolding productSign
