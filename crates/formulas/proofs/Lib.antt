@@ -18,7 +18,7 @@ pub mod Promises
 pub mod Laws
 pub mod Digits
 pub mod WrittenLines
-pub mod Doing
+pub mod ReaderSteps
 pub mod Sheets
 pub mod Answers
 pub mod Printed

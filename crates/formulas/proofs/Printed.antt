@@ -26,7 +26,7 @@ use Rattle.formulas.specs.Load as Load
 use Rattle.formulas.specs.Load.{given, refused, numberOf, placeOf, loadedSheet, sheetFor, formulaOf}
 use Rattle.formulas.specs.Exactly.{Becomes}
 use Rattle.formulas.specs.Answer.{countLine, countIn, sheetPrinted, printed, isEnded, textIn, afterFirst, onCount, answerOf, inBytes}
-use Rattle.formulas.specs.Prints.{Given, FormulaPrints}
+use Rattle.formulas.specs.Prints.{Input, FormulaPrints}
 use Rattle.formulas.proofs.Answers.{accepted-short}
 use Rattle.formulas.proofs.Exactly.{long}
 use Rattle.formulas.proofs.Promises.{formulas-exactly}
@@ -58,7 +58,7 @@ module _ (s : List ℕ) (w : Numeral) (u : List ℕ) (e : countLine s ≡ good w
   no-end : isEnded u ≡ false → length u ≤ longest → answerOf s ≡ refusedText 2 2
   no-end f h = after ∙ rw (f, le-leb (length u) longest h)
 
-module _ (s t : List ℕ) (k : ℕ) (g : Given s k t) where
+module _ (s t : List ℕ) (k : ℕ) (g : Input s k t) where
   prints : answerOf s ≡ printed (sheetFor t k)
   prints = after s (g .numeral) (g .rest) (g .first) ∙ rw (g .ended, g .text, g .count)
 

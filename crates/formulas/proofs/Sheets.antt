@@ -27,7 +27,7 @@ use Rattle.formulas.specs.Read.{good, stuck, sumAt, atomAt, tree, fault,
 use Rattle.formulas.specs.Load.{Given, given, refused, fromSheet, fromParsed, sheetFor, loadedSheet, formulaOf, firstBytes, answered, convertedOf, bufferAfter}
 use Rattle.formulas.specs.Load.{bufferOf}
 use Rattle.formulas.specs.Views.{Inside, Drafts, HoldsAll, Does, startAt}
-use Rattle.formulas.proofs.Doing.{Works, stuck-of, good-of}
+use Rattle.formulas.proofs.ReaderSteps.{Works, stuck-of, good-of}
 use Rattle.formulas.proofs.Laws.{inside-at}
 use Rattle.formulas.proofs.Exactly.{short, long}
 

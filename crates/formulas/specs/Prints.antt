@@ -17,7 +17,7 @@ use Rattle.formulas.specs.Exactly.{Becomes}
 use Rattle.formulas.specs.Answer.{countLine, countIn, isEnded, textIn, answerOf, inBytes}
 
 -- The input s has a first line with the count k, and what follows it is the text t, ended by byte 10
-pub record Given (s : List ℕ) (k : ℕ) (t : List ℕ) : Type 0 where
+pub record Input (s : List ℕ) (k : ℕ) (t : List ℕ) : Type 0 where
   pub numeral : Numeral
   pub rest : List ℕ
   pub first : countLine s ≡ good numeral rest
@@ -35,10 +35,10 @@ pub record FormulaPrints : Type 0 where
   pub no-end : (s : List ℕ) (w : Numeral) (u : List ℕ) → countLine s ≡ good w u → isEnded u ≡ false → length u ≤ longest
       → answerOf s ≡ refusedText 2 2
   -- and else it is what the text becomes: 19 or 20, the refusal of its sheet, or the sheet itself, byte for byte
-  pub not-converted : (s t : List ℕ) (k : ℕ) (r : Refusal) → Given s k t → formulaOf t k ≡ refused r → answerOf s ≡ refusedText (numberOf r) (placeOf r)
-  pub not-loaded : (s t : List ℕ) (k : ℕ) (x : List ℕ) (r : codelist.Refusal) → Given s k t → Becomes t k x → load.loadOf x ≡ load.refused r
+  pub not-converted : (s t : List ℕ) (k : ℕ) (r : Refusal) → Input s k t → formulaOf t k ≡ refused r → answerOf s ≡ refusedText (numberOf r) (placeOf r)
+  pub not-loaded : (s t : List ℕ) (k : ℕ) (x : List ℕ) (r : codelist.Refusal) → Input s k t → Becomes t k x → load.loadOf x ≡ load.refused r
       → answerOf s ≡ refusedText (load.numberOf r) (load.placeOf r)
-  pub sheet : (s t : List ℕ) (k : ℕ) (x : List ℕ) (c : Codelist) → Given s k t → Becomes t k x → load.loadOf x ≡ load.accepted c → answerOf s ≡ x
+  pub sheet : (s t : List ℕ) (k : ℕ) (x : List ℕ) (c : Codelist) → Input s k t → Becomes t k x → load.loadOf x ≡ load.accepted c → answerOf s ≡ x
   -- the first `len` bytes of what `answer` gives, which the program writes, are the whole output
   pub whole : (s : List ℕ) → take (inBytes (answerOf s) .at) (inBytes (answerOf s) .bytes) ≡ answerOf s
   -- the program reads 2,048 bytes at most: what follows them changes nothing

@@ -1,5 +1,5 @@
 -- The readers of atoms, powers, products and sums meet their contracts. They call each other in a cycle; what falls is four times the bytes that are
--- left, and a rank: 0 for an atom, 1 for a power, 2 for a product, 3 for a sum. What each of them gives back is a lemma of Doing, on what was read.
+-- left, and a rank: 0 for an atom, 1 for a power, 2 for a product, 3 for a sum. What each of them gives back is a lemma of ReaderSteps, on what was read.
 use Prim.Native.Nat.{ℕ, _<_, _+_, _-_, _*_}
 use mathlib.Core.Path.{sym, _∙_}
 use native.Mathlib.Omega.{arith}
@@ -11,10 +11,10 @@ use Rattle.formulas.specs.Read.{atomAt, poweredAt, productAt, sumAt, pro
 use Rattle.formulas.specs.Views.{signOf}
 use Rattle.formulas.proofs.Complete.{no-bracket}
 use Rattle.formulas.proofs.Grammatical.{product-signs, sum-signs}
-use Rattle.formulas.proofs.Doing.{Gone, gone, told, Stops, stops, no-room, Opens, bracket-ready, bracket-stops, bracket-open, bracket-closes}
-use Rattle.formulas.proofs.Doing.{power-stops, power-plain, power-none, power-up, power-ready}
-use Rattle.formulas.proofs.Doing.{Loop, loop-starts, Turn, sign-read, sign-ready, joinable, chain-turns, chain-shrinks}
-use Rattle.formulas.proofs.Doing.{chain-stops, chain-ends, chain-breaks, product-chains, sum-chains}
+use Rattle.formulas.proofs.ReaderSteps.{Gone, gone, told, Stops, stops, no-room, Opens, bracket-ready, bracket-stops, bracket-open, bracket-closes}
+use Rattle.formulas.proofs.ReaderSteps.{power-stops, power-plain, power-none, power-up, power-ready}
+use Rattle.formulas.proofs.ReaderSteps.{Loop, loop-starts, Turn, sign-read, sign-ready, joinable, chain-turns, chain-shrinks}
+use Rattle.formulas.proofs.ReaderSteps.{chain-stops, chain-ends, chain-breaks, product-chains, sum-chains}
 use Rattle.formulas.proofs.reader.atom_at.Reads as atom-at
 use Rattle.formulas.proofs.reader.atom_at.Kinds as atom-at-kinds
 use Rattle.formulas.proofs.reader.+atom_at+powered_at+product_at+sum_at.Lts-atom_at as atom-at-lts

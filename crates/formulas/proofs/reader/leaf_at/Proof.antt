@@ -1,5 +1,5 @@
--- `reader::leaf_at` meets its contract: what a factor and a constant give is a lemma of Doing.
-use Rattle.formulas.proofs.Doing.{factor-low, factor-high, factor-read, constant-none, constant-read}
+-- `reader::leaf_at` meets its contract: what a factor and a constant give is a lemma of ReaderSteps.
+use Rattle.formulas.proofs.ReaderSteps.{factor-low, factor-high, factor-read, constant-none, constant-read}
 use borrow.Author.Needs.{needs}
 use Rattle.formulas.proofs.reader.leaf_at.Statement.{statement}
 use Rattle.formulas.proofs.reader.leaf_at.Tie as tie
