@@ -1,5 +1,5 @@
--- A table of formulas, with the sheet that each becomes, line by line, or its refusal, worked out by hand. That all of it is right is one test, which the
--- checker computes.
+-- A table of formulas, with the sheet that each becomes, line by line, or its refusal, worked out apart from these definitions. That all of it is right is
+-- one test, which the checker computes.
 use Prim.Native.Nat.{ℕ}
 use mathlib.Core.Bool.{Bool, true, false, _&&_}
 use mathlib.Core.List.{List, [], _∷_}
