@@ -1,0 +1,5 @@
+pub mod Numbers
+pub mod Called
+pub mod Outcomes
+pub mod Apart
+pub mod Demands
