@@ -6,7 +6,7 @@ bench/bench.py PATH_TO_RATE_MANY [PATH_TO_AN_EARLIER_ONE]
 bench/bench.py --in-2014 PATH_TO_RATE_MANY
 bench/bench.py --pages PATH_TO_RATE_MANY
 bench/bench.py --cuts PATH_TO_CUT_MANY
-bench/bench.py --quoting PATH_TO_THE_ARCHIVE PATH_TO_RATE_MANY
+bench/bench.py --quoting PATH_TO_THE_ARCHIVE PATH_TO_RATE_MANY [PATH_TO_AN_EARLIER_ARCHIVE]
 
 PATH N < SHEET loads the sheet once and rates it N times; bench/reference.c, built here with cc -O3, does the same. Both run in turn.
 Nanoseconds are the least processor time of all rounds, and the ratio is that of the two; the median is that of the rounds' own ratios, which a busy
@@ -23,8 +23,9 @@ numbers and from a slice of structs. A page of 1,000 boats is timed in the same 
 --cuts times classes cut finer (02, request 6), and nothing else: PATH N < CLASS reads a sheet and its ranges once and rates the class N times to the depth
 that its first line gives, PATH N rate < SHEET rates it N times uncut. What is compared is the time of a part, the whole call's over 2 to the depth.
 
---quoting times `motmotdivan_rate` of an archive (02, request 10), and nothing else: bench/quoting.c, built here with it, calls the function N times
-from C, and with another job rates by reference.c with the same bytes in and out. Both run in turn with ratings of the engine, PATH N < SHEET.
+--quoting times `motmotdivan_rate` of an archive (02, requests 10 and 13), and nothing else: bench/quoting.c, built here with it, calls the function N times
+from C, for the first class and for the last one of a desk with four, and with another job rates by reference.c with the same bytes in and out. All run in
+turn with ratings of the engine, PATH N < SHEET, and with the function of an archive from before request 13, of one class, where one is named.
 """
 import argparse
 import os
@@ -52,13 +53,15 @@ MOST_PER_PART = 1.25  # the bar: the time of a part, in plain ratings of the unc
 MOST_PER_PART_OF_A_CLASS = 1.5  # and on each class
 MOST_BESIDE_ENGINE = 1.3  # the bar: the time of a call of `motmotdivan_rate`, in ratings of the engine, by the geometric mean
 MOST_BESIDE_C = 2  # and in ratings of the C with the same records
+MOST_BESIDE_ONE_CLASS = 1.05  # and in calls of the archive of one class
+TIMED_CLASSES = (1, 4)  # of a desk with the sheet in all four
 SIGNS = "signs"  # the sheet whose ranges change sign from line to line, which is in no mean
 STEPS = (1, 3, 7, 9, 11, 13, 17, 19)  # a factor each, none with a divisor in common with BOATS
 
 
-def build(folder, name="reference", *archives):
-    """A C program of this folder, built in one that is removed afterwards."""
-    program = Path(folder) / name
+def build(folder, name="reference", *archives, called=None):
+    """A C program of this folder, built in one that is removed afterwards; `archives` may have options for it, too."""
+    program = Path(folder) / (called or name)
     compiler = os.environ.get("CC", "cc")
     if shutil.which(compiler) is None:
         sys.exit(f"no C compiler {compiler}")
@@ -375,59 +378,72 @@ def cut_table(sheets, engine, folder):
 
 
 class Quotes:
-    """Ratings of a class by the engine, by `motmotdivan_rate`, and by the C with the same records."""
+    """Ratings of a class by `motmotdivan_rate`, as the first class and as the last one, by the engine, by the C with the same records, and by the function
+    of the archive of one class, where there is one."""
 
-    def __init__(self, engine, program, sheet):
+    def __init__(self, engine, program, one_class, sheet):
         self.sheet = sheet
-        self.engine, self.functions, self.plain = Timed(engine, sheet), Timed(program, sheet, "functions"), Timed(program, sheet, "c")
+        self.calls = {number: Timed(program, sheet, str(number)) for number in TIMED_CLASSES}
+        self.others = {"engine": Timed(engine, sheet), "C": Timed(program, sheet, "c")}
+        if one_class:
+            self.others["one class"] = Timed(one_class, sheet, "1")
 
     def round(self):
-        timed = (self.engine, self.functions, self.plain)
+        timed = (*self.others.values(), *self.calls.values())
         for each in timed:
             each.round()
-        if len({each.printed for each in timed}) != 1 or self.engine.printed.startswith(b"refused"):
+        if len({each.printed for each in timed}) != 1 or timed[0].printed.startswith(b"refused"):
             sys.exit(f"{self.sheet.name}: refused, or different results")
 
     def rows(self):
-        """The nanoseconds of a call beside those of the engine, and beside those of the C."""
-        call = self.functions.nanoseconds()
-        for other in (self.engine, self.plain):
-            times = other.nanoseconds()
-            yield Row(*shape(self.sheet), min(call), min(times), min(call) / min(times), statistics.median(x / y for x, y in zip(call, times)))
+        """For each class the nanoseconds of a call beside those of each other way to rate."""
+        for number, call in self.calls.items():
+            ours = call.nanoseconds()
+            for name, other in self.others.items():
+                times = other.nanoseconds()
+                median = statistics.median(x / y for x, y in zip(ours, times))
+                yield (number, name), Row(*shape(self.sheet), min(ours), min(times), min(ours) / min(times), median)
 
 
-def quoting_table(sheets, engine, archive, folder):
+def quoting_table(sheets, engine, archive, earlier, folder):
     """All run in turn, as in `measure`."""
     program = build(folder, "quoting", archive)
-    print(f"\nThe C functions, nanoseconds per rating\n{'sheet':<12}{'factors':>8}{'lines':>6}{'functions':>10}{'engine':>8}{'C':>8}", end="")
-    print(f"{'/ engine':>10}{'median':>8}{'/ C':>8}{'median':>8}", flush=True)
-    timed = [Quotes(engine, program, sheet) for sheet in sheets]
+    one_class = build(folder, "quoting", "-DONE_CLASS", earlier, called="one-class") if earlier else None
+    timed = [Quotes(engine, program, one_class, sheet) for sheet in sheets]
+    others = [*timed[0].others]
+    print(f"\nThe C functions, nanoseconds per rating\n{'sheet':<12}{'factors':>8}{'lines':>6}", end="")
+    print("".join(f"{f'class {number}':>10}" for number in TIMED_CLASSES) + "".join(f"{name:>10}" for name in others), end="")
+    print("".join(f"{f'{number} / {name}':>15}" for number in TIMED_CLASSES for name in others), flush=True)
     for _ in range(ROUNDS):
         for each in timed:
             each.round()
-    table_rows = [list(each.rows()) for each in timed]
-    for each, (beside_engine, beside_c) in zip(timed, table_rows):
-        print(f"{each.sheet.stem:<12}{beside_c.factors:>8}{beside_c.lines:>6}", end="")
-        print(f"{beside_c.engine:>10.0f}{beside_engine.plain:>8.0f}{beside_c.plain:>8.0f}", end="")
-        print(f"{beside_engine.ratio:>10.3f}{beside_engine.median:>8.3f}{beside_c.ratio:>8.3f}{beside_c.median:>8.3f}")
-    for name, most, rows in zip(("engine", "C"), (MOST_BESIDE_ENGINE, MOST_BESIDE_C), zip(*table_rows)):
-        print(f"beside the {name}:")
+    table_rows = [dict(each.rows()) for each in timed]
+    for each, rows in zip(timed, table_rows):
+        factors, lines = shape(each.sheet)
+        print(f"{each.sheet.stem:<12}{factors:>8}{lines:>6}", end="")
+        print("".join(f"{rows[number, others[0]].engine:>10.0f}" for number in TIMED_CLASSES), end="")
+        print("".join(f"{rows[TIMED_CLASSES[0], name].plain:>10.0f}" for name in others), end="")
+        print("".join(f"{row.ratio:>15.3f}" for row in rows.values()))
+    bars = {"engine": MOST_BESIDE_ENGINE, "C": MOST_BESIDE_C, "one class": MOST_BESIDE_ONE_CLASS}
+    for number, name in table_rows[0]:
+        rows = [each[number, name] for each in table_rows]
+        print(f"class {number} beside {'the archive of one class' if name == 'one class' else f'the {name}'}:")
         means(rows)
         mean = geometric_mean(row.ratio for row in rows)
-        print(f"  by the mean {'at most' if mean <= most else 'ABOVE'} {most} ratings of the {name}: {mean:.3f}")
+        print(f"  by the mean {'at most' if mean <= bars[name] else 'ABOVE'} {bars[name]}: {mean:.3f}")
 
 
 def main():
     parser = argparse.ArgumentParser(description=__doc__, formatter_class=argparse.RawDescriptionHelpFormatter)
     parser.add_argument("engine", metavar="PATH", type=Path, help="the program `rate_many`, or with --cuts `cut_many`")
-    parser.add_argument("earlier", metavar="PATH_TO_AN_EARLIER_ONE", type=Path, nargs="?")
+    parser.add_argument("earlier", metavar="PATH_TO_AN_EARLIER_ONE", type=Path, nargs="?", help="with --quoting, an archive from before request 13")
     parser.add_argument("--in-2014", action="store_true", help="ratings in 2014 alone")
     parser.add_argument("--pages", action="store_true", help="pages of boats alone")
     parser.add_argument("--cuts", action="store_true", help="classes cut finer, by `cut_many`")
     parser.add_argument("--quoting", metavar="ARCHIVE", type=Path, help="the C functions of an archive alone")
     arguments = parser.parse_args()
-    if (arguments.in_2014 or arguments.pages or arguments.cuts or arguments.quoting) and arguments.earlier:
-        parser.error("--in-2014, --pages, --cuts and --quoting take no earlier build: it would have to know the year, the page, the cut, and the desk")
+    if (arguments.in_2014 or arguments.pages or arguments.cuts) and arguments.earlier:
+        parser.error("--in-2014, --pages and --cuts take no earlier build: it would have to know the year, the page, and the cut")
     engine = arguments.engine.resolve()
     all_sheets = sorted(SHEETS.glob("*.txt"), key=lambda sheet: (shape(sheet), sheet.stem))
     classes = [sheet for sheet in all_sheets if not sheet.stem.startswith("growth-") and sheet.stem != SIGNS]
@@ -436,7 +452,7 @@ def main():
             cut_table(classes, engine, folder)
             return
         if arguments.quoting:
-            quoting_table(classes, engine, arguments.quoting.resolve(), folder)
+            quoting_table(classes, engine, arguments.quoting.resolve(), arguments.earlier and arguments.earlier.resolve(), folder)
             return
         if arguments.in_2014:
             tables_in_2014(all_sheets, classes, engine, build(folder), folder)

@@ -1,14 +1,30 @@
-/* quoting N JOB < INPUT: an input of `rate`, loaded once and rated N times with the records of the C functions (02, request 10). Prints the last
-   result, as `rate` does. The job is `functions`, the two of include/motmotdivan.h, or `c`, the rating of reference.c with the same bytes in and
-   out: 128 of doubles, which have to be whole numbers, and 192 of doubles, cleared where the rating is refused.
+/* quoting N JOB < INPUT: an input of `rate`, loaded once and rated N times with the records of the C functions (02, requests 10 and 13). Prints the last
+   result, as `rate` does. The job is a class number, 1 to 4, for the two functions of include/motmotdivan.h, with the sheet in all four classes of the
+   desk, so that the other three are full; or `c`, the rating of reference.c with the same bytes in and out: 128 of doubles, which have to be whole
+   numbers, and 192 of doubles, cleared where the rating is refused.
+
+   Built with -DONE_CLASS it takes an archive from before request 13, whose functions have no class number, and whose desk is 512 bytes. The class number
+   is then left out of the calls.
 
    What the C does not do is find the sheet in the bytes of a desk at each rating: it keeps the sheet as it was loaded, with the sets worked out. */
 #define main reference_main
 #include "reference.c"
 #undef main
 
+#ifdef ONE_CLASS
+#define MOTMOTDIVAN_STATE_LENGTH 512
+#define MOTMOTDIVAN_RANGES_LENGTH 128
+#define MOTMOTDIVAN_RESULT_LENGTH 192
+uint64_t motmotdivan_load(uint8_t *state, size_t state_length, const uint8_t *text, size_t text_length);
+uint64_t motmotdivan_rate(const uint8_t *state, size_t state_length, const uint8_t *ranges, size_t ranges_length, uint8_t *result,
+                          size_t result_length);
+#define OF_CLASS(class_number)
+#else
 #include "motmotdivan.h"
+#define OF_CLASS(class_number) class_number,
+#endif
 
+#define CLASSES 4
 #define WHOLE 9007199254740992.0 /* 2^53: from there on all doubles are whole numbers */
 
 /* 18 before 9, each of all factors; a whole number beyond 2^53 is one beyond the limit */
@@ -77,9 +93,9 @@ int main(int count, char **arguments) {
     static Sheet sheet;
     static Line lines[MOST_LINES];
     static uint8_t desk[MOTMOTDIVAN_STATE_LENGTH], ranges[MOTMOTDIVAN_RANGES_LENGTH], record[MOTMOTDIVAN_RESULT_LENGTH];
-    int functions = count == 3 && !strcmp(arguments[2], "functions");
-    if (count != 3 || (!functions && strcmp(arguments[2], "c"))) {
-        fprintf(stderr, "quoting N functions < INPUT, or quoting N c < INPUT\n");
+    uint64_t class_number = count == 3 ? strtoul(arguments[2], NULL, 10) : 0; /* 0 for the C */
+    if (count != 3 || class_number > CLASSES || (class_number == 0 && strcmp(arguments[2], "c"))) {
+        fprintf(stderr, "quoting N CLASS < INPUT, or quoting N c < INPUT\n");
         return 2;
     }
     size_t n = fread(input, 1, sizeof input, stdin);
@@ -94,10 +110,12 @@ int main(int count, char **arguments) {
         double x = (double)numbers[k];
         memcpy(ranges + 8 * k, &x, sizeof x);
     }
-    uint64_t code = functions ? motmotdivan_load(desk, sizeof desk, (const uint8_t *)text.at, (size_t)(text.end - text.at)) : 0;
+    uint64_t code = 0;
+    for (uint64_t k = 1; class_number && !code && k <= CLASSES; k++)
+        code = motmotdivan_load(OF_CLASS(k) desk, sizeof desk, (const uint8_t *)text.at, (size_t)(text.end - text.at));
     for (long times = atol(arguments[1]); !code && times > 0; times--) {
-        code = functions ? motmotdivan_rate(desk, sizeof desk, ranges, sizeof ranges, record, sizeof record)
-                         : rate_record(&sheet, ranges, sizeof ranges, record, sizeof record, lines);
+        code = class_number ? motmotdivan_rate(OF_CLASS(class_number) desk, sizeof desk, ranges, sizeof ranges, record, sizeof record)
+                            : rate_record(&sheet, ranges, sizeof ranges, record, sizeof record, lines);
         __asm__ volatile("" : : "r"(record) : "memory"); /* each rating is done */
     }
     if (code) printf("refused\t%d\t%d\n", (int)(code % 100), (int)(code / 100));

@@ -1,69 +1,79 @@
-/* quote SHEET: the limits of a class of motor launches, and a class that is refused, by the sheet in a file (examples/launch.sheet).
+/* quote SAIL MOTOR DINGHY CHARTER DINGHY: quotes four classes from one desk, then loads the dinghies anew and quotes all four again.
 
-   Prints what the program `rate` prints for the same sheet and ranges. README.md, "Use from C and Python", says how it is built. */
+   Each argument is an input of the program `rate`: a sheet, a line `box`, and the ranges of a class. Of each class the low and the high end of the value
+   are printed, as `rate` prints them; two refusals follow. README.md, "Use from C and Python", says how it is built. */
 #include <stdio.h>
+#include <stdlib.h>
 #include <string.h>
 
 #include "motmotdivan.h"
 
-enum { FACTORS = 3, MOST_SHEET = 4096 };
+enum { CLASSES = 4, DINGHY = 3, ENDS = 16, MOST_INPUT = 8192 };
+
+typedef struct {
+    char text[MOST_INPUT + 1];
+    size_t sheet_length; /* the sheet is the text as far as the line `box` */
+    double ends[ENDS];   /* in units of 1/10,000, low and high of each factor; those past the last factor are ignored */
+} Input;
+
+/* Whether a file has a sheet, and ranges behind it. */
+static int read_input(Input *input, const char *name) {
+    FILE *file = fopen(name, "rb");
+    if (file == NULL) return 0;
+    input->text[fread(input->text, 1, MOST_INPUT, file)] = '\0';
+    fclose(file);
+    char *box = strstr(input->text, "\nbox\n");
+    if (box == NULL) return 0;
+    input->sheet_length = (size_t)(box + 1 - input->text);
+    char *at = box + strlen("\nbox\n"), *behind;
+    for (int k = 0; k < ENDS; k++, at = behind) input->ends[k] = strtod(at, &behind);
+    return 1;
+}
 
 /* What a function returned, where it is not 0. */
 static void print_refusal(uint64_t code) { printf("refused\t%d\t%d\n", (int)(code % 100), (int)(code / 100)); }
 
-static void print_range(const char *name, const double *ends) { printf("%s\t%.0f\t%.0f\n", name, ends[0], ends[1]); }
-
-/* A set of factors is the sum of 2^(factor - 1). */
-static void print_set(const char *name, double sum) {
-    printf("%s", name);
-    for (int factor = 1; factor <= FACTORS; factor++)
-        if ((unsigned)sum >> (factor - 1) & 1) printf("\t%d", factor);
-    printf("\n");
+static void load(int number, uint8_t *desk, const Input *input) {
+    uint64_t code = motmotdivan_load((uint64_t)number, desk, MOTMOTDIVAN_STATE_LENGTH, (const uint8_t *)input->text, input->sheet_length);
+    if (code != 0) print_refusal(code); /* and the class is what it was, as the other three are in any case */
 }
 
-/* Rates the ranges of the factors, low end and high end of each, and prints the limits or the refusal. */
-static void quote(const uint8_t *desk, const double *ends) {
+/* Rates the ranges of a class by the sheet that is loaded under its number, and prints the ends of the value, or the refusal. */
+static void quote(int number, const uint8_t *desk, const Input *input) {
     /* The records are bytes: a double is eight of IEEE 754, the lowest first. So it is in the memory of x86-64, and memcpy does; a machine that has
        the highest byte first would have to turn each double round. */
-    uint8_t ranges[MOTMOTDIVAN_RANGES_LENGTH] = {0}, result[MOTMOTDIVAN_RESULT_LENGTH];
-    double limits[24];
-    memcpy(ranges, ends, 2 * FACTORS * sizeof *ends);
-    uint64_t code = motmotdivan_rate(desk, MOTMOTDIVAN_STATE_LENGTH, ranges, sizeof ranges, result, sizeof result);
+    uint8_t ranges[MOTMOTDIVAN_RANGES_LENGTH], result[MOTMOTDIVAN_RESULT_LENGTH];
+    double limits[24]; /* value, slopes of eight factors, depends, bent, bend, full: docs/STATE.md */
+    memcpy(ranges, input->ends, sizeof ranges);
+    uint64_t code = motmotdivan_rate((uint64_t)number, desk, MOTMOTDIVAN_STATE_LENGTH, ranges, sizeof ranges, result, sizeof result);
     if (code != 0) {
         print_refusal(code);
         return;
     }
     memcpy(limits, result, sizeof result);
-    print_range("value", limits);
-    for (int factor = 1; factor <= FACTORS; factor++) printf("slope\t%d\t%.0f\t%.0f\n", factor, limits[2 * factor], limits[2 * factor + 1]);
-    print_set("depends", limits[18]);
-    print_set("bent", limits[19]);
-    print_range("bend", limits + 20);
-    print_range("full", limits + 22);
+    printf("class\t%d\t%.0f\t%.0f\n", number, limits[0], limits[1]);
 }
 
 int main(int count, char **arguments) {
-    static uint8_t text[MOST_SHEET + 1]; /* one byte more than a sheet may have, so that a longer file is refused, and not cut off */
+    static Input classes[CLASSES], dearer;
     uint8_t desk[MOTMOTDIVAN_STATE_LENGTH] = {0};
-    FILE *file = count == 2 ? fopen(arguments[1], "rb") : NULL;
-    if (file == NULL) {
-        fprintf(stderr, "quote SHEET: a file with a sheet of three factors\n");
+    int good = count == CLASSES + 2 && read_input(&dearer, arguments[CLASSES + 1]);
+    for (int number = 1; good && number <= CLASSES; number++) good = read_input(&classes[number - 1], arguments[number]);
+    if (!good) {
+        fprintf(stderr, "quote SAIL MOTOR DINGHY CHARTER DINGHY: five files with a sheet, a line `box` and ranges each\n");
         return 2;
     }
-    size_t length = fread(text, 1, sizeof text, file);
-    fclose(file);
-    uint64_t code = motmotdivan_load(desk, sizeof desk, text, length);
-    if (code != 0) {
-        print_refusal(code);
-        return 1;
-    }
 
-    /* in units of 1/10,000: length 5 to 7 m, age 0 to 15 years, value 10 to 40 thousand */
-    const double class_ends[2 * FACTORS] = {50000, 70000, 0, 150000, 100000, 400000};
-    quote(desk, class_ends);
+    for (int number = 1; number <= CLASSES; number++) load(number, desk, &classes[number - 1]);
+    for (int number = 1; number <= CLASSES; number++) quote(number, desk, &classes[number - 1]);
 
-    /* A length of 5.00005 m is half a unit more than 50,000, and so no whole number: 18, and the place is the factor. */
-    const double half_a_unit[2 * FACTORS] = {50000.5, 70000, 0, 150000, 100000, 400000};
-    quote(desk, half_a_unit);
+    classes[DINGHY - 1] = dearer;
+    load(DINGHY, desk, &dearer);
+    for (int number = 1; number <= CLASSES; number++) quote(number, desk, &classes[number - 1]);
+
+    /* Half a unit more is no whole number: 18, and the place is the factor. And there is no fifth class: 21. */
+    classes[0].ends[0] += 0.5;
+    quote(1, desk, &classes[0]);
+    quote(5, desk, &classes[0]);
     return 0;
 }

@@ -1,24 +1,27 @@
-"""Compares the two C functions with 02, request 10 (tests/reference/quoting.py), by ctypes: the code, every byte of desk, text and records, and every
-byte beside them.
+"""Compares the two C functions with 02, requests 10 and 13 (tests/reference/classes.py), by ctypes: the code, every byte of desk, text and records, and
+every byte beside them.
 
 The buffers of a call lie in one stretch of random bytes, in any order, at any address. What a call is counted as comes from its bytes, not from the
-kind that it was made under.
+kind that it was made under: here by the bytes of its own class, and in class_counts.py by its number and by the other classes.
 """
 import ctypes
 import random
 import struct
 from functools import lru_cache
+from typing import NamedTuple
 
+from class_counts import CLASS_RULES, LOADING, NUMBERS, OTHER_BYTES, SEQUENCE_RULES, ZEROS, of_class_load, of_class_rate
+from class_errors import CLASS_LOAD_ERRORS, CLASS_RATE_ERRORS
 from errors import CALLED_LOAD_ERRORS, CALLED_RATE_ERRORS
+from reference.classes import DESK, SLOT, Classes, Load, Rate
 from reference.outcome import Refused, refuse
-from reference.quoting import DESK, ENTRY, HEAD, RANGES, RESULT, Load, Quoting, Rate, refusal_of
+from reference.quoting import ENTRY, HEAD, RANGES, RESULT, Quoting, refusal_of
 from reference.ranges import LIMIT
 from reference.rating import rate
 from reference.sheet import EARLIER, MOST_FACTORS, MOST_LINES, PRESENT, REFERENCES, load
-from tally import Tally
+from tally import TIMES_CAUGHT, Tally
 
 MOST_TOGETHER = 1 << 15  # bytes of a call, with those beside its buffers
-LOADING = (*range(1, 8), 15, 17)
 FEWEST_BESIDE, MOST_BESIDE = 16, 47  # bytes before each buffer, and behind the last
 
 # sorts of a double
@@ -29,10 +32,10 @@ HUGE, HUGE_BELOW = "1e300", "-1e300"
 BEYONDS = ("beyond the limit, and not 64 bits", "beyond 64 bits", HUGE, HUGE_BELOW)
 NO_WHOLES = (FRACTION, SUBNORMAL, *INFINITIES, *NANS)
 
-ZEROS, ANOTHER, OTHER_BYTES = "zeros", "another sheet", "bytes that are no sheet's"
+ANOTHER = "another sheet"
 LENGTHS = ("no bytes", "fewer bytes", "more bytes")
 
-# bytes of a desk by what they are for; a change of the second ones can make another sheet
+# bytes of a class by what they are for; a change of the second ones can make another sheet
 ZERO_FIELDS = ("the zeros behind the year", "an operation's fourth byte", "a third byte that is not used", "a constant that is not used",
                "the zeros behind the operations", "the number of operations")
 FIELDS = ("the number of factors", "the year", "a kind", "a first line", "a second line", "an exponent", "a constant")
@@ -40,7 +43,7 @@ FIELDS = ("the number of factors", "the year", "a kind", "a first line", "a seco
 LOAD_RULES = [
     *(f"load: {number}" for number in LOADING), *(f"load: 10 over {number}" for number in LOADING), "load: 10, and the sheet is good",
     *(f"load: 10, a desk of {length}" for length in LENGTHS),
-    *(f"load: {outcome}, {desk}" for outcome in ("accepted", "refused") for desk in (f"a desk of {ZEROS}", ANOTHER, OTHER_BYTES)),
+    *(f"load: {outcome}, {slot}" for outcome in ("accepted", "refused") for slot in (ZEROS, ANOTHER, OTHER_BYTES)),
     "load: accepted, the same sheet", "load: accepted, of 2014", "load: accepted, of 2016",
     *(f"load: accepted, {factors} factors" for factors in range(1, MOST_FACTORS + 1)), "load: accepted, 1 operation", "load: accepted, 63 operations",
     *(f"load: accepted, `{name}`" for name in REFERENCES), *(f"load: accepted, `addc` of {constant}" for constant in (-LIMIT, 0, LIMIT)),
@@ -68,7 +71,8 @@ ACCEPTED_RULES = [
         "all eight factors count")),
 ]
 
-BYTE_RULES = [f"changed: byte {at}" for at in range(DESK)]
+BYTE_RULES = [f"changed: byte {at}" for at in range(SLOT)]
+QUOTED_ON_RULES = [f"changed: byte {at} of class {k}, and the others quote on" for k in NUMBERS for at in range(SLOT)]
 CHANGED_RULES = [
     *(f"changed: {field}, and 10" for field in ZERO_FIELDS + FIELDS), *(f"changed: {field}, and another sheet" for field in FIELDS),
     "changed: another sheet, and its result", "changed: another sheet, and its refusal",
@@ -93,7 +97,33 @@ def remembered(sheet, ends):
     return refuse(*refusal) if refusal else result
 
 
-RIGHT = Quoting(remembered)
+@lru_cache(maxsize=1024)
+def decoded(slot):
+    return Quoting().decoded(slot)
+
+
+class Remembering(Quoting):
+    """The right rules. The bytes of a class are decoded once for all that ask for its sheet, since those of other classes come again and again."""
+    def decoded(self, desk):
+        return decoded(desk)
+
+
+RIGHT = Classes(remembered, Remembering)
+
+
+class Wrong(NamedTuple):
+    """A wrong rule, of one class or of four, in one of the two functions: it has to be told from the right one in each that it can be seen in."""
+    function: str
+    rules: type
+
+    def called(self, call):
+        return (self.rules(remembered) if issubclass(self.rules, Classes) else Classes(remembered, self.rules)).called(call)
+
+
+ERRORS = {
+    "load": [Wrong("load", rules) for rules in CALLED_LOAD_ERRORS + CLASS_LOAD_ERRORS],
+    "rate": [Wrong("rate", rules) for rules in CALLED_RATE_ERRORS + CLASS_RATE_ERRORS],
+}
 
 
 class Library:
@@ -103,39 +133,41 @@ class Library:
         library = ctypes.CDLL(str(path))
         self.functions = {Load: library.motmotdivan_load, Rate: library.motmotdivan_rate}
         for call, function in self.functions.items():
-            function.argtypes = [ctypes.c_void_p, ctypes.c_size_t] * len(call._fields)
+            function.argtypes = [ctypes.c_uint64] + [ctypes.c_void_p, ctypes.c_size_t] * (len(call._fields) - 1)
             function.restype = ctypes.c_uint64
         self.together = ctypes.create_string_buffer(MOST_TOGETHER)
 
     def called(self, call, rng):
-        """The code, the buffers as they are left, their addresses, and whether a byte beside them has changed."""
-        start, places, at = ctypes.addressof(self.together), {}, 0
-        for name in rng.sample(call._fields, len(call)):
+        """The code, the call's bytes as they are left, their addresses, and whether a byte beside them has changed."""
+        start, names, places, at = ctypes.addressof(self.together), call._fields[1:], {}, 0
+        for name in rng.sample(names, len(names)):
             at += rng.randint(FEWEST_BESIDE, MOST_BESIDE)
             places[name] = at
             at += len(getattr(call, name))
         before = bytearray(rng.randbytes(at + rng.randint(FEWEST_BESIDE, MOST_BESIDE)))
-        for name, buffer in zip(call._fields, call):
+        for name, buffer in zip(names, call[1:]):
             before[places[name]:places[name] + len(buffer)] = buffer
         ctypes.memmove(start, bytes(before), len(before))
-        arguments = [argument for name, buffer in zip(call._fields, call) for argument in (start + places[name], len(buffer))]
-        code = self.functions[type(call)](*arguments)
+        arguments = [argument for name, buffer in zip(names, call[1:]) for argument in (start + places[name], len(buffer))]
+        code = self.functions[type(call)](call.number, *arguments)
         after = ctypes.string_at(start, len(before))
-        left = type(call)(*(after[places[name]:places[name] + len(buffer)] for name, buffer in zip(call._fields, call)))
-        for name, buffer in zip(call._fields, left):
+        left = type(call)(call.number, *(after[places[name]:places[name] + len(buffer)] for name, buffer in zip(names, call[1:])))
+        for name, buffer in zip(names, left[1:]):
             before[places[name]:places[name] + len(buffer)] = buffer
         return code, left, {name: start + place for name, place in places.items()}, after != before
 
 
 class CallComparison(Tally):
-    rules = LOAD_RULES + REFUSED_RULES + ACCEPTED_RULES + BYTE_RULES + CHANGED_RULES + ADDRESS_RULES
-    errors = CALLED_LOAD_ERRORS + [wrong for wrong in CALLED_RATE_ERRORS if wrong not in CALLED_LOAD_ERRORS]
+    rules = LOAD_RULES + REFUSED_RULES + ACCEPTED_RULES + CLASS_RULES + BYTE_RULES + CHANGED_RULES + ADDRESS_RULES + QUOTED_ON_RULES + SEQUENCE_RULES
+    errors = ERRORS["load"] + ERRORS["rate"]
 
     def __init__(self, library):
         super().__init__()
         self.library = library
+        self.untold = dict(ERRORS)  # wrong rules that are still tried
 
     def compare(self, name, call, good=None):
+        """Compares one call with the reference, and gives the library's code and what it left."""
         code, left = expected = RIGHT.called(call)
         got, got_left, addresses, beside = self.library.called(call, random.Random(name))
         complaint = "--- a byte beside the buffers has changed\n" if beside else ""
@@ -144,25 +176,35 @@ class CallComparison(Tally):
         function = "load" if isinstance(call, Load) else "rate"
         self.met.update(f"{function}: {buffer} at {address % 8} beyond a multiple of 8" for buffer, address in addresses.items())
         if isinstance(call, Load):
+            self.met.update(f"load: {rule}" for rule in of_class_load(RIGHT, call, code))
             self.met.update(f"load: {rule}" for rule in of_load(call, code, left))
-            self.catch_errors(expected, lambda wrong: wrong(remembered).called(call), CALLED_LOAD_ERRORS)
         else:
+            self.met.update(f"rate: {rule}" for rule in of_class_rate(RIGHT, call, code))
             self.met.update(f"rate: {rule}" for rule in of_rate(call, code, left, good))
             if good is not None:
-                self.met.update(f"changed: {rule}" for rule in of_change(call.desk, good, code))
-            self.catch_errors(expected, lambda wrong: wrong(remembered).called(call), CALLED_RATE_ERRORS)
+                self.met.update(f"changed: {rule}" for rule in of_change(RIGHT.slot(call.desk, call.number), good, code))
+        self.catch_errors(expected, lambda wrong: wrong.called(call), self.untold[function])
+        self.untold[function] = [wrong for wrong in self.untold[function] if self.caught[wrong] < TIMES_CAUGHT]
         self.judge(name, shown(call).encode(), complaint)
+        return got, got_left
+
+    def said_of(self, wrong):
+        return f"{wrong.function}: {wrong.rules.__doc__}"
 
     def conclude(self):
         """Prints how often each rule was met."""
-        self.show(LOAD_RULES + REFUSED_RULES + ACCEPTED_RULES + CHANGED_RULES)
-        for rules, what in ((BYTE_RULES, "a byte of a good desk changed"), (ADDRESS_RULES, "addresses of buffers, modulo 8")):
+        self.show(LOAD_RULES + REFUSED_RULES + ACCEPTED_RULES + CLASS_RULES + CHANGED_RULES + SEQUENCE_RULES)
+        for rules, what in (
+                (BYTE_RULES, "a byte of a good class changed"), (QUOTED_ON_RULES, "a byte changed, and the other three classes quote on"),
+                (ADDRESS_RULES, "addresses of buffers, modulo 8")):
             print(f"{min(self.met[rule] for rule in rules):9}  {what}: the least often met of {len(rules)}")
+        print(f"{len(self.errors):9}  wrong rules that have to be told from the right ones")
 
 
 def shown(call):
-    """The buffers of a call, a line each."""
-    return "".join(f"{name}, {len(buffer)} bytes: {buffer.hex()}\n" for name, buffer in zip(call._fields, call))
+    """The class number of a call, and its buffers, a line each."""
+    buffers = zip(call._fields[1:], call[1:])
+    return f"class {call.number}\n" + "".join(f"{name}, {len(buffer)} bytes: {buffer.hex()}\n" for name, buffer in buffers)
 
 
 # ---- what a call is counted as
@@ -172,13 +214,15 @@ def length_of(buffer, length):
     return LENGTHS[0] if not buffer else LENGTHS[1] if len(buffer) < length else LENGTHS[2]
 
 
-def sort_of_desk(desk):
-    return f"a desk of {ZEROS}" if not any(desk) else OTHER_BYTES if RIGHT.decoded(desk) is None else ANOTHER
+def sort_of_slot(slot):
+    return ZEROS if not any(slot) else OTHER_BYTES if RIGHT.one.decoded(slot) is None else ANOTHER
 
 
 def of_load(call, code, left):
-    """What a load is counted as."""
-    refusal = refusal_of(code)
+    """What a load of a class is counted as."""
+    refusal, slot = refusal_of(code), RIGHT.slot(call.desk, call.number)
+    if code == 21:
+        return
     if code == 10:
         yield f"10, a desk of {length_of(call.desk, DESK)}"
         try:
@@ -189,13 +233,13 @@ def of_load(call, code, left):
             yield "10, and the sheet is good"
     elif refusal:
         yield str(refusal.number)
-        yield f"refused, {sort_of_desk(call.desk)}"
+        yield f"refused, {sort_of_slot(slot)}"
         if refusal.place > 9:
             yield "a place above 9"
         if refusal.place == 65:
             yield "place 65"
     else:
-        yield "accepted, the same sheet" if call.desk == left.desk else f"accepted, {sort_of_desk(call.desk)}"
+        yield "accepted, the same sheet" if call.desk == left.desk else f"accepted, {sort_of_slot(slot)}"
         sheet = load(call.text)
         yield f"accepted, of {sheet.year}"
         yield f"accepted, {sheet.factors} factors"
@@ -230,10 +274,13 @@ def bad_ranges(sorts, doubles):
 
 
 def of_rate(call, code, left, good):
-    """What a rating is counted as. An empty desk is given as many factors as it says, or as the good one has that it was made of."""
-    desk, ranges, result = call
-    sheet, refusal = RIGHT.decoded(desk), refusal_of(code)
-    factors = sheet.factors if sheet else (good or desk or b"\0")[0]
+    """What a rating of a class is counted as. An empty class is given as many factors as it says, or as the good one has that it was made of."""
+    if code == 21:
+        return
+    number, desk, ranges, result = call
+    slot = RIGHT.slot(desk, number)
+    sheet, refusal = RIGHT.one.decoded(slot), refusal_of(code)
+    factors = sheet.factors if sheet else (good or slot or b"\0")[0]
     factors = factors if 1 <= factors <= MOST_FACTORS else 0
     sorts = [sort_of(ranges[8 * k:8 * k + 8]) for k in range(len(ranges) // 8)]
     doubles = struct.unpack(f"<{len(sorts)}d", ranges[:8 * len(sorts)])
@@ -243,7 +290,7 @@ def of_rate(call, code, left, good):
     lengths = len(ranges) != RANGES or len(result) != RESULT
     due = [number for number, holds in ((8, lengths), (18, broken), (9, turned)) if holds]
     if code == 10:
-        yield f"10, a desk of {length_of(desk, DESK)}" if len(desk) != DESK else f"10, {OTHER_BYTES if any(desk) else ZEROS}"
+        yield f"10, a desk of {length_of(desk, DESK)}" if len(desk) != DESK else f"10, {OTHER_BYTES if any(slot) else ZEROS}"
         yield from (f"10 over {number}" for number in due)
     elif code == 8:
         if len(ranges) != RANGES:
@@ -293,9 +340,9 @@ def of_result(numbers):
     yield from (f"accepted, {what}" for what, holds in conditions.items() if holds)
 
 
-def of_change(desk, good, code):
-    """What a desk with one byte changed is counted as."""
-    changed = [at for at in range(DESK) if desk[at] != good[at]]
+def of_change(slot, good, code):
+    """What a class with one byte changed is counted as."""
+    changed = [at for at in range(SLOT) if slot[at] != good[at]]
     if len(changed) != 1:
         return
     (at,) = changed
@@ -306,7 +353,7 @@ def of_change(desk, good, code):
 
 
 def field_of(good, at):
-    """What a byte of a desk is for."""
+    """What a byte of a class is for."""
     if at < HEAD:
         return (FIELDS[0], "the number of operations", FIELDS[1], *["the zeros behind the year"] * 5)[at]
     k, at = divmod(at - HEAD, ENTRY)

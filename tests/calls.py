@@ -1,26 +1,32 @@
-"""Calls of the two C functions (02, request 10): random ones, and a good desk with each of its bytes changed.
+"""Calls of the two C functions (02, requests 10 and 13): random ones, calls of unknown classes with all else that can be wrong, and a good class with
+each of its bytes changed.
 
-A random case is a sheet that is loaded, of the kinds of generate.py, and some ratings by its desk. The desk, the lengths of the records and the
-numbers in them are each damaged now and then, one apart from the others, so that refusals of all sorts meet in one call.
+A random case is a sheet that is loaded as one of the four classes, of the kinds of generate.py, and some ratings by it, beside other classes that do not
+change from call to call. The class's bytes, the length of the desk, those of the records, the numbers in them and the class number are each damaged now
+and then, one apart from the others, so that refusals of all sorts meet in one call.
 """
 import math
 import struct
 from typing import NamedTuple, Union
 
 import generate
-from generate import magnitude, some_operation, some_range
+from desks import (
+    DESK_LENGTHS, ENCODED, GOOD, UNKNOWN_NUMBERS, changed, desk_with, known_number, misfit, neighbours, of_length, slot_to_rate, some_slot,
+    unknown_number)
+from generate import magnitude, some_range
+from reference.classes import CLASSES, DESK, Load, Rate
 from reference.outcome import Refused
-from reference.quoting import DESK, ENTRY, HEAD, RANGES, RESULT, Load, Quoting, Rate
+from reference.quoting import RANGES, RESULT
 from reference.ranges import LIMIT
 from reference.sheet import MOST_FACTORS, MOST_LINES, PRESENT, Operation, Sheet, load, sheet_text
 from reference.text import box_ends, parted
 from years import named, some_year
 
-RATINGS = 4  # by each desk
-DESK_LENGTHS = (0, 1, 8, 16, 256, 504, 511, 513, 520, 1024, 4096)
+RATINGS = 4  # by each sheet
+UNKNOWN_SHARE = 0.04  # of random calls, which are for no class
+MISFITS = 40  # of each class
 RANGES_LENGTHS = (0, 1, 8, 64, 112, 120, 127, 129, 136, 192, 256)
 RESULT_LENGTHS = (0, 1, 8, 128, 184, 191, 193, 200, 256, 384)
-ENCODED = Quoting().encoded
 
 KINDS = [
     (generate.grown, 20), (generate.blind, 14), (generate.sums, 12), (generate.overreaching, 8), (generate.scaled, 5), (generate.special, 6),
@@ -30,7 +36,7 @@ KINDS = [
 
 
 class Case(NamedTuple):
-    """A call, and the good desk that its desk was made of by a change, where it was."""
+    """A call, and the good bytes that its class's were made of by a change, where they were."""
     call: Union[Load, Rate]
     good: Union[bytes, None] = None
 
@@ -85,72 +91,6 @@ def rubbish(rng):
     return rng.randbytes(8) if choice == 0 else no_whole(rng) if choice == 1 else beyond(rng) if choice == 2 else double((0.0, -0.0)[choice - 3])
 
 
-# ---- desks
-
-def some_sheet(rng):
-    """A sheet that loads; nothing is asked about what it rates to."""
-    factors = rng.randint(1, MOST_FACTORS)
-    count = min(rng.choice((1, 2, 3, 5, 9, MOST_LINES)), MOST_LINES - factors)
-    operations = []
-    for earlier in range(factors, factors + count):
-        name, *numbers = some_operation(rng, lambda: rng.randint(1, earlier))
-        operations.append(Operation(name, (numbers[0], numbers[1] or 1) if name == "mulc" else tuple(numbers)))
-    return Sheet(factors, tuple(operations), some_year(rng))
-
-
-def some_desk(rng):
-    """A desk to load into: zeros, another sheet, that with bytes changed, or any bytes."""
-    choice = rng.randrange(4)
-    if choice == 0:
-        return bytes(DESK)
-    if choice == 3:
-        return rng.randbytes(DESK)
-    desk = ENCODED(some_sheet(rng))
-    return desk if choice == 1 else changed(rng, desk)
-
-
-def changed(rng, desk):
-    """A desk with one byte changed, or a few."""
-    desk = bytearray(desk)
-    used = HEAD + ENTRY * desk[1] if desk[1] < MOST_LINES else DESK
-    for _ in range(rng.choice((1, 1, 1, 1, 2, 3))):
-        at = rng.randrange(rng.choice((HEAD, used, used, DESK)))
-        desk[at] = rng.choice((0, 1, 2, 6, 7, desk[at] ^ 1 << rng.randrange(8), rng.randrange(256)))
-    return bytes(desk)
-
-
-def misfit(rng, sheet):
-    """A desk with one operation that loading would refuse."""
-    k = rng.randrange(len(sheet.operations))
-    earlier = sheet.factors + k
-    entry = rng.choice((
-        (1, rng.choice((0, earlier + 1, 255)), 1, 0), (2, 1, rng.choice((0, earlier + 1, 255)), 0), (3, 0, 0, LIMIT), (3, 1, 0, 2 * LIMIT + 1),
-        (3, 1, 0, 2 ** 32 - 1), (4, 1, 0, LIMIT), (4, 1, 0, 2 * LIMIT + 1), (4, earlier + 1, 0, 0), (5, 1, rng.choice((0, 1, 9, 255)), 0),
-        (6, rng.choice((0, earlier + 1)), 0, 0), (0, 1, 1, 0), (7, 1, 1, 0), (6, 1, 1, 0), (3, 1, 1, 0), (5, 1, 2, LIMIT), (1, 1, 1, 1)))
-    desk, at = ENCODED(sheet), HEAD + ENTRY * k
-    return desk[:at] + struct.pack("<BBHI", *entry) + desk[at + ENTRY:]
-
-
-def of_length(rng, given, lengths):
-    """Bytes cut off or put behind, so that there are as many as one of the lengths."""
-    length = rng.choice(lengths)
-    return given[:length] + (bytes if rng.random() < 0.5 else rng.randbytes)(max(0, length - len(given)))
-
-
-def desk_to_rate(rng, sheet):
-    """The desk of a rating: mostly that of the sheet."""
-    good, choice = ENCODED(sheet), rng.random()
-    if choice < 0.8:
-        return good, None
-    if choice < 0.9:
-        return changed(rng, good), good
-    if choice < 0.94:
-        return misfit(rng, sheet), None
-    if choice < 0.98:
-        return of_length(rng, good, DESK_LENGTHS), None
-    return (bytes(DESK) if choice < 0.99 else rng.randbytes(DESK)), None
-
-
 # ---- records
 
 def ends_of(rng, factors, box):
@@ -181,38 +121,47 @@ def doubles_of(rng, ends):
     return doubles
 
 
-def rating(rng, sheet, ends):
-    """A rating by a sheet's desk."""
-    desk, good = desk_to_rate(rng, sheet)
+def record_of(rng, ends):
+    """A record of ranges: doubles of the ends, and others behind the last factor."""
     doubles = doubles_of(rng, ends)
-    ranges = b"".join(doubles + [rubbish(rng) for _ in range(2 * MOST_FACTORS - len(doubles))])
-    result = rng.randbytes(RESULT)
+    return b"".join(doubles + [rubbish(rng) for _ in range(2 * MOST_FACTORS - len(doubles))])
+
+
+def rating(rng, number, slots, sheet, ends):
+    """A rating of a class by a sheet."""
+    slot, good = slot_to_rate(rng, sheet)
+    desk, ranges, result = desk_with(slots, number, slot), record_of(rng, ends), rng.randbytes(RESULT)
+    if rng.random() < 0.04:
+        desk, good = of_length(rng, desk, DESK_LENGTHS), None
     if rng.random() < 0.05:
         ranges = of_length(rng, ranges, RANGES_LENGTHS)
     if rng.random() < 0.05:
         result = of_length(rng, result, RESULT_LENGTHS)
-    return Case(Rate(desk, ranges, result), good)
+    return Case(Rate(number, desk, ranges, result), good)
 
 
 # ---- cases
 
 def case(rng):
-    """A kind's name, a load, and ratings by the sheet where it is one, or by the desk that was there."""
+    """A kind's name, a load, and ratings by the sheet where it is one, or by what was there."""
     kind = rng.choices([kind for kind, _ in KINDS], [weight for _, weight in KINDS])[0]
     text = named(rng, kind(rng))
     sheet_part, box = parted(text)
     given = text if rng.random() < 0.02 else sheet_part
-    desk = some_desk(rng)
-    calls = [Case(Load(of_length(rng, desk, DESK_LENGTHS) if rng.random() < 0.06 else desk, given))]
+    number, slots = known_number(rng), neighbours(rng)
+    desk = desk_with(slots, number, some_slot(rng))
+    calls = [Case(Load(number, of_length(rng, desk, DESK_LENGTHS) if rng.random() < 0.06 else desk, given))]
     try:
         sheet = load(given)
     except Refused:
         ranges = b"".join(double(float(end)) for _ in range(MOST_FACTORS) for end in some_range(rng))
-        return kind.__name__, calls + [Case(Rate(desk, ranges, rng.randbytes(RESULT)))]
-    ends = ends_of(rng, sheet.factors, box)
-    if rng.random() < 0.02:
-        calls.append(Case(Load(ENCODED(sheet), given)))
-    return kind.__name__, calls + [rating(rng, sheet, ends) for _ in range(RATINGS)]
+        calls.append(Case(Rate(number, desk, ranges, rng.randbytes(RESULT))))
+    else:
+        ends = ends_of(rng, sheet.factors, box)
+        if rng.random() < 0.02:
+            calls.append(Case(Load(number, desk_with(slots, number, ENCODED(sheet)), given)))
+        calls += [rating(rng, number, slots, sheet, ends) for _ in range(RATINGS)]
+    return kind.__name__, [Case(call._replace(number=unknown_number(rng))) if rng.random() < UNKNOWN_SHARE else Case(call, good) for call, good in calls]
 
 
 def loads(rng):
@@ -236,12 +185,64 @@ def long_sheet(rng, factors, count, year=PRESENT):
     return Sheet(factors, tuple(operations), year)
 
 
-def sweep(rng, sheet):
-    """A rating by a good desk with each of its bytes changed to some others."""
-    good = ENCODED(sheet)
-    ranges = b"".join(double(float(end)) for _ in range(sheet.factors) for end in (rng.randint(-9, 0), rng.randint(1, 9)))
-    ranges += rng.randbytes(RANGES - len(ranges))
+def small_ranges(rng, factors):
+    """Ranges of some units for the factors, and any bytes behind them."""
+    ranges = b"".join(double(float(end)) for _ in range(factors) for end in (rng.randint(-9, 0), rng.randint(1, 9)))
+    return ranges + rng.randbytes(RANGES - len(ranges))
+
+
+def barely_empty(rng, number):
+    """Ratings of a class that would have limits but for the desk's length, some with ranges of another length, or for one operation or byte."""
+    sheet = long_sheet(rng, rng.randint(1, MOST_FACTORS), 12, some_year(rng))
+    slots, good, ranges = rng.sample(GOOD, CLASSES), ENCODED(sheet), small_ranges(rng, sheet.factors)
+    desk = desk_with(slots, number, good)
+    for length in 3 * DESK_LENGTHS:
+        for other in (ranges, of_length(rng, ranges, RANGES_LENGTHS)):
+            yield Rate(number, of_length(rng, desk, [length]), other, rng.randbytes(RESULT))
+    for slot in (good[:-1] + b"\1", *(misfit(rng, sheet) for _ in range(MISFITS))):
+        yield Rate(number, desk_with(slots, number, slot), ranges, rng.randbytes(RESULT))
+
+
+def sweep(rng, number, sheet):
+    """A rating of a class by a good sheet with each of its bytes changed to some others."""
+    good, slots, ranges = ENCODED(sheet), rng.sample(GOOD, CLASSES), small_ranges(rng, sheet.factors)
     for at, byte in enumerate(good):
         others = {byte ^ 1 << rng.randrange(8), (byte + rng.choice((-1, 1))) % 256, rng.randrange(256)} - {byte}
         for other in sorted(others):
-            yield Case(Rate(good[:at] + bytes([other]) + good[at + 1:], ranges, rng.randbytes(RESULT)), good)
+            desk = desk_with(slots, number, good[:at] + bytes([other]) + good[at + 1:])
+            yield Case(Rate(number, desk, ranges, rng.randbytes(RESULT)), good)
+
+
+# ---- unknown classes
+
+BAD_SHEETS = {
+    1: b"factors\t1\n" + b"addc\t1\t0\n" * 500, 2: b"factors\t1\naddc\t1 0\n", 3: b"factors\t9\nadd\t1\t2\n", 4: b"factors\t2\n",
+    5: b"factors\t1\ninv\t2\n", 6: b"factors\t1\npow\t1\t9\n", 7: b"factors\t1\naddc\t1\t2000000001\n", 15: b"factors\t1\nmulc\t1\t0\n",
+    17: b"factors\t1\t2015\ninv\t1\n",
+}
+
+
+def of_no_class(rng):
+    """Calls of each unknown number, with nothing wrong beside it, and with one thing that is: of the desk, of the sheet, or of the records. Every class
+    that is not empty has one factor, so that the records are good or bad for each of them."""
+    slots = [ENCODED(Sheet(1, (Operation("addc", (1, 10_000 * k)), Operation(name, numbers)), some_year(rng)))
+             for k, (name, numbers) in enumerate((("mulc", (2, 5)), ("pow", (2, 2)), ("mul", (1, 2)), ("add", (2, 2))))]
+    inverses = [ENCODED(Sheet(1, (Operation("inv", (1,)),), some_year(rng)))] * CLASSES
+    loaded, past_limit = b"".join(slots), b"".join(inverses)
+    sheet = sheet_text(Sheet(1, (Operation("pow", (1, 2)),), some_year(rng)))
+    good, turned, points = (b"".join(map(double, ends)) for ends in ((10_000.0, 30_000.0), (3.0, 2.0), (1.0, 1.0)))
+    fraction = double(10_000.5) + double(30_000.0)
+    for number in UNKNOWN_NUMBERS:
+        desks = {"": loaded, ", empty": bytes(DESK), ", damaged": b"".join(changed(rng, slot) for slot in slots), ", any bytes": rng.randbytes(DESK)}
+        desks |= {f", a desk of {length} bytes": of_length(rng, loaded, [length]) for length in DESK_LENGTHS}
+        for name, desk in desks.items():
+            yield f"load of class {number}{name}", Load(number, desk, sheet)
+            yield f"rate of class {number}{name}", Rate(number, desk, good + rng.randbytes(RANGES - 16), rng.randbytes(RESULT))
+        for refusal, text in BAD_SHEETS.items():
+            yield f"load of class {number}, a sheet for {refusal}", Load(number, loaded, text)
+        records = {"18": (loaded, fraction), "9": (loaded, turned), "12": (past_limit, points), "11": (past_limit, double(-1.0) + double(1.0))}
+        for refusal, (desk, ends) in records.items():
+            yield f"rate of class {number}, {refusal}", Rate(number, desk, ends + bytes(RANGES - 16), rng.randbytes(RESULT))
+        for ranges, result in ((RANGES_LENGTHS, [RESULT]), ([RANGES], RESULT_LENGTHS), (RANGES_LENGTHS, RESULT_LENGTHS)):
+            records = of_length(rng, good + bytes(RANGES - 16), ranges), of_length(rng, rng.randbytes(RESULT), result)
+            yield f"rate of class {number}, records of {len(records[0])} and {len(records[1])} bytes", Rate(number, loaded, *records)

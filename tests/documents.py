@@ -23,10 +23,11 @@ from typing import NamedTuple
 ROOT = Path(__file__).resolve().parent.parent
 OPERATIONS = ("add", "mul", "addc", "mulc", "pow", "inv")
 PROGRAMS = {"prints:": "rate", "tidied:": "tidy", "reported:": "fleet", "cut:": "cut", "sisters:": "sisters", "formula:": "formula"}
-# no program prints 10, since each loads a sheet first, nor 13, since `tidy` has room for every sheet, nor 18, since numerals are whole numbers
+# no program prints 10, since each loads a sheet first, nor 13, since `tidy` has room for every sheet, nor 18, since numerals are whole numbers, nor 21,
+# since each has one class
 REFUSALS = {"rate": [*range(1, 10), 11, 12, 15, 17], "fleet": [14], "cut": [16], "sisters": [8, 9], "formula": [19, 20]}
 CALLED = "Use from C and Python"  # the section whose commands tests/quoting.py runs
-CALLS = {"motmotdivan_load": [10, *range(1, 8), 15, 17], "motmotdivan_rate": [10, 8, 18, 9, 11, 12]}
+CALLS = {"motmotdivan_load": [21, 10, *range(1, 8), 15, 17], "motmotdivan_rate": [21, 10, 8, 18, 9, 11, 12]}
 
 
 def written(lines):
@@ -120,8 +121,9 @@ def disagreed():
     """What the documents of the C functions say differently."""
     header, state, sheet = ((ROOT / path).read_text() for path in ("include/motmotdivan.h", "docs/STATE.md", "docs/SHEET.md"))
     lengths = re.findall(r"^#define MOTMOTDIVAN_([A-Z]+)_LENGTH (\d+)", header, re.MULTILINE)
-    titles = re.findall(r"^## The ([a-z]+): (\d+) bytes", state, re.MULTILINE)
-    if [length for _, length in lengths] != [length for _, length in titles] or [name for name, _ in lengths] != ["STATE", "RANGES", "RESULT"]:
+    titles = re.findall(r"^## The ([a-z]+): ([\d,]+) bytes", state, re.MULTILINE)
+    same = [length for _, length in lengths] == [length.replace(",", "") for _, length in titles]
+    if not same or [name for name, _ in lengths] != ["STATE", "RANGES", "RESULT"]:
         yield "the lengths of include/motmotdivan.h and docs/STATE.md"
     names, numbers = re.search(r"^(\w+(?:, \w+)*) = (\d+(?:, \d+)*)$", (ROOT / "examples" / "quote.py").read_text(), re.MULTILINE).groups()
     if [*zip(names.split(", "), numbers.split(", "))] != [(f"{name}_LENGTH", length) for name, length in lengths]:
@@ -139,9 +141,9 @@ def disagreed():
 
 
 def in_words(words):
-    """The numbers of refusals in a sentence, single ones and `1 to 7`. Those of three digits are lengths."""
+    """The numbers of refusals in a sentence, single ones and `1 to 7`. Those of three digits, and `2,048`, are lengths."""
     found = []
-    for first, last in re.findall(r"\b(\d{1,2})(?: to (\d))?\b", words):
+    for first, last in re.findall(r"\b(\d{1,2})(?: to (\d))?\b(?!,\d)", words):
         found += range(int(first), int(last or first) + 1)
     return found
 

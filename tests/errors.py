@@ -11,8 +11,8 @@ what is made of the two halves, of which depths are taken, and of the first line
 how the sums are rounded, of which boats are taken and when that is asked, and of the boat lines. Of these three the year can be forgotten, too.
 Those of the committee's laws (request 11), some of which have another place above, break a law: with references exchanged they give something else,
 or ranges inside accepted ones are refused or get wider limits.
-Those of the C functions (request 10) are near misses of the code, of what is written and when, of which desks are empty, of which doubles are whole
-numbers, of the order of refusals, and of the two records.
+Those of the C functions (request 10) are near misses of the code, of what is written and when, of which bytes of a class are empty, of which doubles
+are whole numbers, of the order of refusals, and of the two records; class_errors.py has those of the class number and of the desk's four classes.
 """
 import re
 import struct
@@ -3366,7 +3366,7 @@ SISTER_LINE_ERRORS = [
 ]
 
 
-# ---- the C functions
+# ---- the C functions, on the bytes of one class
 
 class PlaceTimesTen(Quoting):
     """A code with 10 times the place."""
@@ -3407,30 +3407,14 @@ class TenBehindOne(Quoting):
         return super().loaded(desk, text)
 
 
-class LongerDeskLoaded(Quoting):
-    """A longer desk loaded into, its last bytes left as they were."""
-    def load(self, desk, text):
-        code, left = super().load(desk[:DESK], text)
-        return code, left._replace(desk=left.desk + desk[DESK:])
-
-
-class ShorterDeskLoaded(Quoting):
-    """A shorter desk loaded into, as far as it goes."""
-    def load(self, desk, text):
-        if len(desk) >= DESK:
-            return super().load(desk, text)
-        code, left = super().load(bytes(DESK), text)
-        return code, left._replace(desk=desk if code else left.desk[:len(desk)])
-
-
 class ClearedByRefusal(Quoting):
-    """A desk emptied by a refused load."""
+    """A class emptied by a refused load."""
     def desk_refused(self, desk):
         return bytes(len(desk))
 
 
 class ClearedBehindRefusal(Quoting):
-    """A desk of which a refused load leaves the first eight bytes only."""
+    """A class of which a refused load leaves the first eight bytes only."""
     def desk_refused(self, desk):
         return desk[:HEAD] + bytes(max(0, len(desk) - HEAD))
 
@@ -3500,9 +3484,8 @@ class LinesCounted(Quoting):
 
 
 CALLED_LOAD_ERRORS = [
-    PlaceTimesTen, PlaceForgotten, PlaceFirst, CodeOfOneByte, TenBehindLoading, TenBehindOne, LongerDeskLoaded, ShorterDeskLoaded, ClearedByRefusal,
-    ClearedBehindRefusal, OnlyUsedWritten, HeadZerosUnwritten, YearUnwritten, YearInFull, ConstantHighestFirst, ConstantUnshifted, LinesFromZero,
-    KindsFromZero, LinesCounted,
+    PlaceTimesTen, PlaceForgotten, PlaceFirst, CodeOfOneByte, TenBehindLoading, TenBehindOne, ClearedByRefusal, ClearedBehindRefusal, OnlyUsedWritten,
+    HeadZerosUnwritten, YearUnwritten, YearInFull, ConstantHighestFirst, ConstantUnshifted, LinesFromZero, KindsFromZero, LinesCounted,
 ]
 
 
@@ -3557,18 +3540,6 @@ class RangesOfFactorsTaken(Quoting):
     def rate(self, desk, ranges, result):
         code, left = super().rate(desk, ranges.ljust(RANGES, b"\0") if len(ranges) >= 16 * (desk[:1] or b"\x08")[0] else ranges, result)
         return code, left._replace(ranges=ranges)
-
-
-class LongerDeskRated(Quoting):
-    """A longer desk taken."""
-    def decoded(self, desk):
-        return super().decoded(desk[:DESK])
-
-
-class ShorterDeskRated(Quoting):
-    """A shorter desk taken as if zeros stood behind it."""
-    def decoded(self, desk):
-        return super().decoded(desk.ljust(DESK, b"\0"))
 
 
 class EightBeforeTen(Quoting):
@@ -3940,14 +3911,13 @@ class PlaceAsTextLine(Quoting):
 
 CALLED_RATE_ERRORS = [
     PlaceTimesTen, PlaceForgotten, PlaceFirst, CodeOfOneByte, NotCleared, AlwaysCleared, ClearedIfLong, ClearedBehindTen, ClearedBehindEight,
-    LongerResultTaken, LongerRangesTaken, RangesOfFactorsTaken, LongerDeskRated, ShorterDeskRated,
-    EightBeforeTen, EighteenBeforeTen, EighteenBeforeEight, EighteenBehindNine, EighteenInTurn, EighteenHighestFactor, EighteenFromZero,
-    EighteenAtDouble, EighteenAtZero, LowEndsTested, PastLastTested, OneMoreTested, MinusZeroRefused, FractionsDropped, FractionsRounded,
-    NearlyWholeTaken, SubnormalsTaken, InfinityBeyond, NaNTaken, SignallingTaken, HugeRefused, BeyondExactRefused, BeyondLimitRefused, WholeOf32Bits,
-    WholeOf64Bits, HighestFirst, ByteBehindIgnored, LastByteIgnored, HeadZerosIgnored, YearIgnored, AnyYear, FourthByteIgnored, SecondLineIgnored,
-    ConstantIgnored, TimesZeroOnDesk, ConstantCut, ExponentCut, ExponentRaised, ReferenceRaised, OwnLineTaken, ZerosRated, BendBehindFull,
-    BentBeforeDepends, HighBeforeLow, SlopesOfFactors, MaskFromTwo, SetCounted, MinusZeroWritten, WrittenHighestFirst, SinglesWritten,
-    PlaceAsTextLine,
+    LongerResultTaken, LongerRangesTaken, RangesOfFactorsTaken, EightBeforeTen, EighteenBeforeTen, EighteenBeforeEight, EighteenBehindNine,
+    EighteenInTurn, EighteenHighestFactor, EighteenFromZero, EighteenAtDouble, EighteenAtZero, LowEndsTested, PastLastTested, OneMoreTested,
+    MinusZeroRefused, FractionsDropped, FractionsRounded, NearlyWholeTaken, SubnormalsTaken, InfinityBeyond, NaNTaken, SignallingTaken, HugeRefused,
+    BeyondExactRefused, BeyondLimitRefused, WholeOf32Bits, WholeOf64Bits, HighestFirst, ByteBehindIgnored, LastByteIgnored, HeadZerosIgnored,
+    YearIgnored, AnyYear, FourthByteIgnored, SecondLineIgnored, ConstantIgnored, TimesZeroOnDesk, ConstantCut, ExponentCut, ExponentRaised,
+    ReferenceRaised, OwnLineTaken, ZerosRated, BendBehindFull, BentBeforeDepends, HighBeforeLow, SlopesOfFactors, MaskFromTwo, SetCounted,
+    MinusZeroWritten, WrittenHighestFirst, SinglesWritten, PlaceAsTextLine,
 ]
 
 

@@ -1,11 +1,15 @@
-/* fuzz CALLS SEED: calls of the two functions on bytes that are random, or good and then damaged, and what has to hold of every call:
+/* fuzz CALLS SEED: calls of the two functions with any class number, on bytes that are random, or good and then damaged, and what has to hold of every
+   call:
 
    - it comes to its end, with a code that is one of its refusals' and a place that this refusal can have;
+   - the class number alone decides 21, whatever else is wrong;
    - no byte beside a buffer changes, and none of the desk, text or ranges that it only reads. A buffer may lie against a page that cannot be touched;
-   - a refused load leaves the desk as it was; after an accepted one, rating by the desk is never refused with 10;
+   - a refused load leaves the desk as it was, and an accepted one the bytes of the other three classes; after it, rating the class is never refused
+     with 10, nor is a class that was loaded before and not touched since;
    - after a refused rating the result is zeros, or as it was where it is of another length; after an accepted one it has whole numbers within the
      limit, low ends that are not above the high ends, sets of factors, and no minus zero;
-   - lengths alone decide a load's 10, and a rating's 8 where the desk is good; the same bytes give the same answer.
+   - lengths alone decide a load's 10, and a rating's 8 where the class is good; the same bytes give the same answer, and so do the bytes of one class
+     with any others in the place of the other three.
 
    The seed is printed, so that a run can be made again. Ends with 1 where something does not hold, or where a refusal was never met. */
 #define _DEFAULT_SOURCE
@@ -17,7 +21,8 @@
 
 #include "motmotdivan.h"
 
-enum { MOST_TEXT = 4200, MOST_LENGTH = 4 * MOTMOTDIVAN_STATE_LENGTH, BESIDE = 64, NUMBERS = 19, FACTORS = 8, LINES = 64, TEXT_LINES = 65 };
+enum { CLASSES = 4, SLOT = MOTMOTDIVAN_STATE_LENGTH / CLASSES }; /* the bytes of a class */
+enum { MOST_TEXT = 4200, MOST_LENGTH = 2 * MOTMOTDIVAN_STATE_LENGTH, BESIDE = 64, NUMBERS = 22, FACTORS = 8, LINES = 64, TEXT_LINES = 65 };
 #define LIMIT 2000000000.0
 
 /* ---- random numbers */
@@ -35,8 +40,25 @@ static size_t below(size_t count) { return (size_t)(next() % count); }
 static int one_in(size_t count) { return below(count) == 0; }
 
 static void randomize(uint8_t *bytes, size_t length) {
-    for (size_t k = 0; k < length; k++) bytes[k] = (uint8_t)next();
+    for (size_t k = 0; k < length; k += 8) {
+        uint64_t eight = next();
+        memcpy(bytes + k, &eight, length - k < 8 ? length - k : 8);
+    }
 }
+
+/* Mostly one of the four classes; else a number near them, one that comes to them where bits or the sign are left out, or any. */
+static uint64_t some_class(void) {
+    static const uint64_t large[] = {UINT64_MAX, (uint64_t)1 << 8, (uint64_t)1 << 16, (uint64_t)1 << 32, (uint64_t)1 << 63};
+    if (!one_in(8)) return 1 + below(CLASSES);
+    switch (below(4)) {
+    case 0: return below(7);
+    case 1: return large[below(sizeof large / sizeof *large)] + below(CLASSES + 2);
+    case 2: return (uint64_t)0 - below(7);
+    default: return next();
+    }
+}
+
+static int known(uint64_t class_number) { return class_number >= 1 && class_number <= CLASSES; }
 
 /* ---- buffers, each in pages of its own between two that nothing may touch */
 
@@ -92,6 +114,8 @@ static int unchanged(const Lent *lent) { return memcmp(lent->bytes, lent->given,
 /* ---- sheets, desks and ranges */
 
 static uint8_t good[MOTMOTDIVAN_STATE_LENGTH]; /* the desk that the last accepted load left */
+static int loaded[CLASSES];                    /* which of its classes an accepted load has left so */
+static uint64_t last = 1;                      /* the class of that load */
 
 static long constant(void) {
     static const long edges[] = {0, 1, -1, 10000, -10000, 2000000000, -2000000000, 2000000001, -2000000001};
@@ -162,7 +186,7 @@ static size_t write_text(uint8_t *text) {
 }
 
 static size_t some_length(size_t right) {
-    static const size_t edges[] = {0, 1, 8, 127, 128, 129, 191, 192, 193, 511, 512, 513};
+    static const size_t edges[] = {0, 1, 8, 127, 128, 129, 191, 192, 193, 511, 512, 513, 1024, 1536, 2047, 2048, 2049, 4096};
     if (!one_in(12)) return right;
     return one_in(2) ? edges[below(sizeof edges / sizeof *edges)] : below(MOST_LENGTH + 1);
 }
@@ -196,14 +220,14 @@ static void count(int rating, uint64_t code) {
     met[rating][number]++;
     if (rating) {
         switch (number) {
-        case 0: case 8: case 10: break;
+        case 0: case 8: case 10: case 21: break;
         case 9: case 18: least = 1, most = FACTORS; break;
         case 11: case 12: least = 2, most = LINES; break;
         default: fail("a refusal that is not a rating's");
         }
     } else {
         switch (number) {
-        case 0: case 1: case 10: break;
+        case 0: case 1: case 10: case 21: break;
         case 3: case 17: least = most = 1; break;
         case 2: case 4: least = 1, most = TEXT_LINES; break;
         case 5: case 6: case 7: case 15: least = 2, most = LINES; break;
@@ -233,10 +257,38 @@ static void check_result(const uint8_t *result) {
 
 static Lent desk, text, ranges, result;
 
-static uint64_t rate(void) { return motmotdivan_rate(desk.bytes, desk.length, ranges.bytes, ranges.length, result.bytes, result.length); }
+static uint64_t rate(uint64_t class_number) {
+    return motmotdivan_rate(class_number, desk.bytes, desk.length, ranges.bytes, ranges.length, result.bytes, result.length);
+}
 
-/* A rating by the lent desk; `loaded` where an accepted load has just left it. */
-static void call_rate(int loaded) {
+/* The bytes of a class in a desk of the right length. */
+static uint8_t *slot(uint8_t *bytes, uint64_t class_number) { return bytes + SLOT * (class_number - 1); }
+
+/* Whether the desk has the bytes that it was given, but for those of one class. */
+static int others_unchanged(uint64_t class_number) {
+    for (uint64_t k = 1; k <= CLASSES; k++)
+        if (k != class_number && memcmp(slot(desk.bytes, k), slot(desk.given, k), SLOT) != 0) return 0;
+    return 1;
+}
+
+/* The last rating once more: with the same bytes, and where the class is known with others in the place of the other three classes. */
+static void rate_again(uint64_t class_number, uint64_t code) {
+    uint8_t once[MOST_LENGTH];
+    memcpy(once, result.bytes, result.length);
+    if (rate(class_number) != code || memcmp(once, result.bytes, result.length) != 0) fail("the same rating comes to something else");
+    calls_made++;
+    if (!known(class_number) || desk.length != MOTMOTDIVAN_STATE_LENGTH) return;
+    for (uint64_t k = 1; k <= CLASSES; k++) {
+        if (k == class_number) continue;
+        if (one_in(2)) randomize(slot(desk.bytes, k), SLOT);
+        else memset(slot(desk.bytes, k), 0, SLOT);
+    }
+    if (rate(class_number) != code || memcmp(once, result.bytes, result.length) != 0) fail("a rating depends on the bytes of another class");
+    calls_made++;
+}
+
+/* A rating by the lent desk; `whole` where an accepted load has left the class's bytes as they are. */
+static void call_rate(uint64_t class_number, int whole) {
     uint8_t bytes[MOST_LENGTH] = {0};
     size_t length = some_length(MOTMOTDIVAN_RANGES_LENGTH);
     randomize(bytes, length);
@@ -245,7 +297,7 @@ static void call_rate(int loaded) {
     length = some_length(MOTMOTDIVAN_RESULT_LENGTH);
     randomize(bytes, length);
     lend(&result, bytes, length);
-    uint64_t code = rate();
+    uint64_t code = rate(class_number);
     count(1, code);
     keep_beside(&desk, 0);
     keep_beside(&ranges, 0);
@@ -253,9 +305,10 @@ static void call_rate(int loaded) {
     if (!unchanged(&desk)) fail("a rating has changed the desk");
     if (!unchanged(&ranges)) fail("a rating has changed the ranges");
     int fits = ranges.length == MOTMOTDIVAN_RANGES_LENGTH && result.length == MOTMOTDIVAN_RESULT_LENGTH;
-    if (desk.length != MOTMOTDIVAN_STATE_LENGTH && code != 10) fail("a desk of another length, and not 10");
-    if (loaded && code == 10) fail("10 behind an accepted load");
-    if (code != 10 && fits != (code != 8)) fail("8 where the lengths fit, or not 8 where they do not");
+    if (known(class_number) == (code == 21)) fail("21 of a class, or a rating of no class that is not refused with 21");
+    if (known(class_number) && desk.length != MOTMOTDIVAN_STATE_LENGTH && code != 10) fail("a desk of another length, and not 10");
+    if (whole && code == 10) fail("10 of a class that was loaded");
+    if (code != 10 && code != 21 && fits != (code != 8)) fail("8 where the lengths fit, or not 8 where they do not");
     if (result.length != MOTMOTDIVAN_RESULT_LENGTH) {
         if (!unchanged(&result)) fail("a result of another length has changed");
     } else if (code != 0) {
@@ -263,58 +316,64 @@ static void call_rate(int loaded) {
     } else {
         check_result(result.bytes);
     }
-    if (one_in(16)) {
-        uint8_t once[MOST_LENGTH];
-        memcpy(once, result.bytes, result.length);
-        if (rate() != code || memcmp(once, result.bytes, result.length) != 0) fail("the same rating comes to something else");
-        calls_made++;
-    }
+    if (one_in(16)) rate_again(class_number, code);
 }
 
+/* A load into a desk of zeros, of any bytes, or the last good one, and a rating behind it: of the class, or of any that is loaded. */
 static void call_load(void) {
     uint8_t bytes[MOST_TEXT];
     size_t length = some_length(MOTMOTDIVAN_STATE_LENGTH);
-    if (one_in(2)) memset(bytes, 0, length);
+    int kind = (int)below(8);
+    if (kind < 2) memset(bytes, 0, length);
     else randomize(bytes, length);
-    if (length == sizeof good && one_in(3)) memcpy(bytes, good, sizeof good);
+    if (kind >= 3) memcpy(bytes, good, length < sizeof good ? length : sizeof good);
     lend(&desk, bytes, length);
     length = write_text(bytes);
     lend(&text, bytes, length);
-    uint64_t code = motmotdivan_load(desk.bytes, desk.length, text.bytes, text.length);
+    uint64_t class_number = some_class(), code = motmotdivan_load(class_number, desk.bytes, desk.length, text.bytes, text.length);
     count(0, code);
     keep_beside(&desk, 0);
     keep_beside(&text, 0);
     if (!unchanged(&text)) fail("a load has changed the text");
-    if ((desk.length != MOTMOTDIVAN_STATE_LENGTH) != (code == 10)) fail("10 of a load, and not by the desk's length alone");
+    if (known(class_number) == (code == 21)) fail("21 of a class, or a load of no class that is not refused with 21");
+    if (known(class_number) && (desk.length != MOTMOTDIVAN_STATE_LENGTH) != (code == 10)) fail("10 of a load, and not by the desk's length alone");
     if (code != 0) {
         if (!unchanged(&desk)) fail("a refused load has changed the desk");
         return;
     }
+    if (!others_unchanged(class_number)) fail("a load has changed the bytes of another class");
+    if (kind < 3) memset(loaded, 0, sizeof loaded);
+    loaded[class_number - 1] = 1;
+    last = class_number;
     memcpy(good, desk.bytes, sizeof good);
     memcpy(desk.given, good, sizeof good);
-    call_rate(1);
+    uint64_t rated = one_in(4) ? 1 + below(CLASSES) : class_number;
+    call_rate(rated, loaded[rated - 1]);
 }
 
 /* A rating by the last good desk, by that with some bytes changed, or by others. */
 static void call_rate_by_any(void) {
     uint8_t bytes[MOST_LENGTH] = {0};
+    uint64_t class_number = some_class();
+    if (known(class_number) && !loaded[class_number - 1] && !one_in(4)) class_number = last;
+    uint64_t changed = one_in(2) || !known(class_number) ? 1 + below(CLASSES) : class_number;
     size_t length = some_length(MOTMOTDIVAN_STATE_LENGTH);
-    int kind = (int)below(8);
+    int kind = (int)below(8), whole = known(class_number) && length == sizeof good && loaded[class_number - 1];
     if (kind == 0) randomize(bytes, length);
     if (kind >= 2) memcpy(bytes, good, length < sizeof good ? length : sizeof good);
     if (kind >= 4)
-        for (size_t times = 1 + below(3); times > 0 && length > 0; times--) {
-            size_t used = 8 + 8 * (size_t)good[1], at = below(one_in(4) || used > length ? length : used);
-            bytes[at] = one_in(2) ? (uint8_t)next() : (uint8_t)(bytes[at] ^ 1u << below(8));
+        for (size_t times = 1 + below(3); times > 0; times--) {
+            size_t used = 8 + 8 * (size_t)slot(good, changed)[1], at = SLOT * (changed - 1) + below(one_in(4) || used > SLOT ? SLOT : used);
+            if (at < length) bytes[at] = one_in(2) ? (uint8_t)next() : (uint8_t)(bytes[at] ^ 1u << below(8));
         }
     lend(&desk, bytes, length);
-    call_rate((kind == 2 || kind == 3) && length == sizeof good && !zeros(good, sizeof good));
+    call_rate(class_number, whole && (kind == 2 || kind == 3 || (kind >= 4 && changed != class_number)));
 }
 
 int main(int argument_count, char **arguments) {
     long calls = argument_count > 1 ? atol(arguments[1]) : 1000000, seed = argument_count > 2 ? atol(arguments[2]) : 1;
     Lent *const all[] = {&desk, &text, &ranges, &result};
-    static const int numbers[2][NUMBERS] = {{0, 1, 2, 3, 4, 5, 6, 7, 10, 15, 17, -1}, {0, 8, 9, 10, 11, 12, 18, -1}};
+    static const int numbers[2][NUMBERS] = {{0, 1, 2, 3, 4, 5, 6, 7, 10, 15, 17, 21, -1}, {0, 8, 9, 10, 11, 12, 18, 21, -1}};
     state = (uint64_t)seed;
     printf("fuzz: seed %ld\n", seed);
     fflush(stdout);

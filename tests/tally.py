@@ -65,10 +65,14 @@ class Tally:
         """How often a rule has to be met."""
         return 1
 
+    def said_of(self, wrong):
+        """What a wrong rule says."""
+        return wrong.__doc__
+
     def missed(self):
         """What was met too seldom, and what was met under a name that is not in the list."""
         missed = [f"met {self.met[rule]} times, and not {self.least(rule)}: {rule}" for rule in self.rules if self.met[rule] < self.least(rule)]
-        missed += [f"never told from the right rules: {wrong.__doc__}" for wrong in self.errors if not self.caught[wrong]]
+        missed += [f"never told from the right rules: {self.said_of(wrong)}" for wrong in self.errors if not self.caught[wrong]]
         return missed + [f"not in the list of rules: {rule}" for rule in sorted(set(self.met) - set(self.rules))]
 
 

@@ -9,6 +9,7 @@ tidy.py    02, request 1: tidied sheets, and the program `tidy`
 fleet.py   02, request 3: figures over a list of boats, and the program `fleet`
 cut.py     02, request 6: rating to a depth, and the program `cut`
 sisters.py 02, request 7: limits of the difference of two boats, and the program `sisters`
-quoting.py 02, request 10: the desk as bytes, records of doubles, and the two C functions
+quoting.py 02, request 10: a class of the desk as bytes, records of doubles, and the two C functions on one class
 formula.py 02, request 12: from a formula's text to a sheet, and the program `formula`
+classes.py 02, request 13: four classes on one desk, and the two C functions as they are
 """

@@ -1,9 +1,10 @@
--- Swapped references change no code and no byte of a result: `exchange-c`. Assumes nothing.
+-- Swapped references change no code and no byte of a result: `exchange-c` of the bytes of one class, `exchange-classes` of the desk. Assumes nothing.
 use Prim.Native.Nat.{ℕ}
 use mathlib.Core.Bool.{Bool, true, false, cond}
 use mathlib.Core.List.{List}
 use mathlib.Core.Option.{Option, some, none, Option·getD}
 use mathlib.Core.Path.{_≡_, refl, sym, ap, subst, _∙_}
+use native.Mathlib.Decide.{ℕ-discrete}
 use native.Mathlib.Omega.{arith}
 use lib.Dec.{eqb}
 use lib.ListN.{length}
@@ -12,7 +13,7 @@ use Rattle.codelist.specs.declared.Outcome.{Outcome}
 use Rattle.codelist.specs.declared.Outcome.the-variants.{Accepted, Refused}
 use Rattle.codelist.specs.Codelist.{WellFormed}
 use Rattle.codelist.specs.Load.{empty, loadOf}
-use Rattle.codelist.specs.Exchange.{Exchanged, LoadedAlike}
+use Rattle.codelist.specs.Exchange.{Exchanged, ExchangedText, LoadedAlike}
 use Rattle.codelist.proofs.Accepted.{accepted-well-formed}
 use Rattle.codelist.proofs.Exchange.{exchange-load}
 use Rattle.rules.proofs.Exchange.{exchange-rate}
@@ -20,9 +21,12 @@ use Rattle.encoding.specs.Encode.{encoded}
 use Rattle.encoding.specs.Decode.{decoded, lentCodelist}
 use Rattle.encoding.specs.Load.{keptOr}
 use Rattle.encoding.proofs.Decoded.{decodes-exactly}
+use Rattle.classes.specs.Classes.{isClass}
 use Rattle.motmotdivan.specs.Record.{rangesOf, Read, numbers, fraction}
 use Rattle.motmotdivan.specs.Calls.{onCodelist, onRead, rateAnswer, loadCode, loadState, rateCode, rateRecord, answerOf, answerCode}
-use Rattle.motmotdivan.specs.Exchange.{ExchangedDesk, ExchangeC}
+use Rattle.motmotdivan.specs.Desk.{bytesOf, classLoadCode, classLoadState, classRateCode, classRateRecord}
+use Rattle.motmotdivan.specs.Exchange.{ExchangedDesk, ExchangeC, ExchangedDesks, ExchangeClasses}
+use Rattle.motmotdivan.proofs.OfClass.{by-class, long, other-bytes, of-slot}
 
 -- ---- what a desk holds
 -- bytes that hold a codelist hold a well formed one, and bytes that hold none count as the empty one, which has no operation
@@ -33,7 +37,7 @@ not-empty : {c : Codelist} → WellFormed c → c .count ≡ 0 → ⊥
 not-empty w e = omega (arith, w .some)
 
 -- what is left by an accepted load is decoded
-lent-back : (c : Codelist) → WellFormed c → lentCodelist (encoded c) ≡ c
+pub lent-back : (c : Codelist) → WellFormed c → lentCodelist (encoded c) ≡ c
 unfolding lentCodelist
 lent-back c w = let e = decodes-exactly .where-encoded (encoded c) c .1 (w, refl) in rw e
 
@@ -92,4 +96,26 @@ exchange-c = record {
   load-state = λ d f s t h k. states d f s t h (exchange-load s t k);
   rate-code = λ d f x r h. ap answerCode (desks-alike d f x (length r) h);
   rate-record = λ d f x r h. rw (desks-alike d f x (length r) h);
+}
+
+-- ---- the desk
+module _ (k : ℕ) (d f s t : List ℕ) (h : ExchangedDesks d f) (x : ExchangedText s t) where
+  own-state : isClass k ≡ true → ExchangedDesk (bytesOf (classLoadState k d s) k) (bytesOf (classLoadState k f t) k)
+  own-state c =
+      rw (of-slot k d c .load-left s, of-slot k f c .load-left t) (exchange-c .load-state (bytesOf d k) (bytesOf f k) s t (h .each k c) x)
+
+  each-state : (j : ℕ) → isClass j ≡ true → ExchangedDesk (bytesOf (classLoadState k d s) j) (bytesOf (classLoadState k f t) j)
+  each-state j c =
+      elim (ℕ-discrete j k) [
+        | yes e ↦ rw e (own-state (rw e at c))
+        | no n ↦ rw (other-bytes k d s j c n, other-bytes k f t j c n) (h .each j c)
+      ]
+
+pub exchange-classes : ExchangeClasses
+unfolding classLoadCode classRateCode classRateRecord
+exchange-classes = record {
+  load-code = λ k d f s t h x. by-class k (λ c. rw c (exchange-c .load-code (bytesOf d k) (bytesOf f k) s t (h .each k c) x)) (λ c. rw c);
+  load-state = λ k d f s t h x. record { long = long k d s ∙ h .long ∙ sym (long k f t); each = each-state k d f s t h x };
+  rate-code = λ k d f x r h. by-class k (λ c. rw c (exchange-c .rate-code (bytesOf d k) (bytesOf f k) x r (h .each k c))) (λ c. rw c);
+  rate-record = λ k d f x r h. by-class k (λ c. rw c (exchange-c .rate-record (bytesOf d k) (bytesOf f k) x r (h .each k c))) (λ c. rw c);
 }

@@ -13,4 +13,8 @@ pub mod Lowest
 pub mod Cases
 pub mod Loading
 pub mod Quoting
+pub mod Slots
+pub mod OfClass
 pub mod Exchange
+pub mod SameClasses
+pub mod ApartBytes

@@ -120,18 +120,20 @@ read-many b s (suc m) xs e = go (numberAt b (2 * s)) (numberAt b (2 * s + 1)) (r
     go noWhole y r more t = one-more t
 
 -- ---- doubles past the last factor
-early : (b : List ℕ) (m n : ℕ) → m + 8 ≤ n → take 8 (drop m (take n b)) ≡ take 8 (drop m b)
-early b zero n h = take-take 8 n b (omega arith)
-early [] (suc m) zero h = refl
-early [] (suc m) (suc n) h = refl
-early (x ∷ b) (suc m) zero h = absurd (omega arith)
-early (x ∷ b) (suc m) (suc n) h = early b m n (omega arith)
+early : (k : ℕ) (b : List ℕ) (m n : ℕ) → m + k ≤ n → take k (drop m (take n b)) ≡ take k (drop m b)
+early k b zero n h = take-take k n b (omega arith)
+early k [] (suc m) zero h = refl
+early k [] (suc m) (suc n) h = refl
+early k (x ∷ b) (suc m) zero h = absurd (omega arith)
+early k (x ∷ b) (suc m) (suc n) h = early k b m n (omega arith)
+
+-- lists with the same beginning have the same parts in it
+pub same-part : (x y : List ℕ) (k m n : ℕ) → take n x ≡ take n y → m + k ≤ n → take k (drop m x) ≡ take k (drop m y)
+same-part x y k m n e h = sym (early k x m n h) ∙ ap (λ (t : List ℕ). take k (drop m t)) e ∙ early k y m n h
 
 same-number : (x y : List ℕ) (n k : ℕ) → take n x ≡ take n y → 8 * k + 8 ≤ n → numberAt x k ≡ numberAt y k
 unfolding numberAt
-same-number x y n k e h =
-    ap (λ (t : List ℕ). wholeOf (ofBits binary64 (numberOf t)))
-    (sym (early x (8 * k) n h) ∙ ap (λ (t : List ℕ). take 8 (drop (8 * k) t)) e ∙ early y (8 * k) n h)
+same-number x y n k e h = ap (λ (t : List ℕ). wholeOf (ofBits binary64 (numberOf t))) (same-part x y 8 (8 * k) n e h)
 
 same-before : (a : ℕ) {w x y z : Number} {p q : Read} → w ≡ x → y ≡ z → p ≡ q → before a w y p ≡ before a x z q
 same-before a e f g = λ i. before a (e i) (f i) (g i)

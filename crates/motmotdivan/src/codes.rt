@@ -7,7 +7,9 @@ ghost use Rattle.motmotdivan.specs.Views.{LoadPlaced};
 use codelist::Outcome;
 use engine::Refusal;
 
-// 10, of an empty desk; 8, of a record of another length; 18, of a fraction: their places are 0, 0 and a factor.
+// 21, of a number that is no class's; 10, of an empty class; 8, of a record of another length; 18, of a fraction: their places are 0, 0, 0 and a factor.
+pub(crate) const UNKNOWN_CLASS: u64 = 21;
+
 pub(crate) const NO_CODELIST: u64 = 10;
 
 pub(crate) const OTHER_LENGTH: u64 = 8;

@@ -1,9 +1,10 @@
 // The record of ranges, sixteen doubles in 128 bytes, and the record of a result, twenty-four in 192.
 ghost use mathlib.Core.Path.{_≡_};
+ghost use mathlib.Core.Bool.{cond};
 ghost use mathlib.Core.List.{[], _∷_};
 ghost use Prim.Native.Nat.{_+_, _≤_};
-ghost use lib.Dec.{ltb};
-ghost use lib.ListN.{length};
+ghost use lib.Dec.{ltb, eqb};
+ghost use lib.ListN.{length, replicate};
 ghost use lib.Seq.{sets};
 ghost use Rattle.motmotdivan.specs.Record.{endsOf, doublesOf, resultRecord};
 ghost use Rattle.motmotdivan.specs.Views.{HoldsBytes, Converted};
@@ -104,4 +105,14 @@ pub(crate) fn put_result(s: &mut [u8], l: Limits)
     doubles::put_double(s, 152, l.nonlinear as i64);
     put_range(s, 160, spectrum);
     put_range(s, 176, full);
+}
+
+// Zeros, in a record of the right length; another one is not written.
+pub(crate) fn clear_result(s: &mut [u8])
+    ensures { λ w. ⌜ now (s .exit) ≡ cond (eqb (length (now (s .entry))) 192) (replicate 192 0) (now (s .entry)) ⌝ }
+{
+    if s.len() != RESULT_LENGTH {
+        return;
+    }
+    put_result(s, Limits::ZERO);
 }

@@ -1,44 +1,48 @@
--- `motmotdivan_load` meets its contract: every place of a refusal is bounded, so that no code wraps.
-use Prim.Native.Nat.{ℕ}
-use mathlib.Core.List.{List}
-use mathlib.Core.Path.{_≡_, refl, ap, sym, subst, _∙_}
-use lib.ListN.{length}
+-- `motmotdivan_load` meets its contract: 21, 10, or what loading gives on the bytes of the class, put back where they stood.
+use mathlib.Core.Path.{sym, _∙_}
 use borrow.Author.Needs.{needs}
-use borrow.Author.Tests.{eq-eqb, ne-eqb}
-use Rattle.codelist.specs.declared.Loaded.{Loaded}
-use Rattle.codelist.specs.declared.Outcome.{Outcome}
-use Rattle.codelist.specs.declared.Outcome.the-variants.{Accepted, Refused}
-use Rattle.codelist.specs.Load.{loadOf}
-use Rattle.encoding.specs.Load.{keptOr, leftBy}
-use Rattle.motmotdivan.specs.Calls.{loadedCode, loadCode, loadState}
-use Rattle.motmotdivan.specs.Views.{LoadPlaced}
-use Rattle.motmotdivan.proofs.Places.{load-placed}
+use borrow.Author.Tests.{not-true, not-false, eq-eqb, ne-eqb}
+use Rattle.motmotdivan.specs.Calls.{loadCode}
+use Rattle.motmotdivan.specs.Desk.{slot, withSlot, bytesOf, classLoadCode, classLoadState}
+use Rattle.motmotdivan.proofs.Slots.{width}
 use Rattle.motmotdivan.proofs.motmotdivan_load.Statement.{statement}
 use Rattle.motmotdivan.proofs.motmotdivan_load.Tie as tie
 
--- Bytes of another length are kept
-kept : (d : List ℕ) (l : Loaded) → (length d ≡ 512 → ⊥) → d ≡ leftBy d l
-kept d l h = go (l .outcome)
-  where
-    go : (o : Outcome) → d ≡ keptOr d o (l .codelist)
-    go Accepted = rw (ne-eqb (length d) 512 h)
-    go (Refused r) = refl
-
 returns : tie.Need-returns
-unfolding loadCode loadState
+unfolding classLoadCode classLoadState
 returns c =
-    let a = c .before .before .before .args in
-    (simp (ne-eqb _ 512 (c .if1 .taken)), kept (a .state .now) (loadOf (a .text .now)) (c .if1 .taken))
-
-load-code-requires : tie.Need-load-code-requires
-load-code-requires c κs = subst LoadPlaced (sym (c .before .before .load .ensures .0)) (load-placed _)
+    let unknown = sym (c .before .is-class .ensures) ∙ not-true _ (c .if1 .taken) in
+    (simp unknown, simp unknown)
 
 returns-2 : tie.Need-returns-2
-unfolding loadCode loadState
+unfolding classLoadCode classLoadState bytesOf loadCode
 returns-2 c =
-    let l = c .before .before .before in
-    (c .load-code .ensures ∙ ap loadedCode (l .load .ensures .0) ∙ simp (eq-eqb _ 512 (l .before .before .if1 .left)), l .load .ensures .1)
+    let known = sym (c .before .before .is-class .ensures) ∙ not-false _ (c .before .if1 .left) in
+    let other = ne-eqb _ 2048 (c .if2 .taken) in
+    (simp (known, other), simp (known, other))
+
+returns-3 : tie.Need-returns-3
+unfolding classLoadCode classLoadState bytesOf slot withSlot
+returns-3 c =
+    let l = c .before .before in
+    let i = l .before .before .before in
+    let known = sym (i .before .before .is-class .ensures) ∙ not-false _ (i .before .if1 .left) in
+    let long = eq-eqb _ 2048 (i .if2 .left) in
+    let start = l .before .before .start-of .ensures .0 in
+    (l .load .ensures .0 ∙ simp (start, width, known, long), simp (l .load .ensures .1, start, width, known, long))
 
 pub motmotdivan-load-spec : {M : Type 1} → statement M
 motmotdivan-load-spec =
-    tie.close (tie.spec returns (λ c κs. search needs) load-code-requires (λ c. search needs) returns-2)
+    tie.close
+    (tie.spec
+    (λ c κs. search needs)
+    returns
+    returns-2
+    (λ c κs. sym (c .before .before .is-class .ensures) ∙ not-false _ (c .before .if1 .left))
+    (λ c. search needs)
+    (λ c. search needs)
+    (λ c. search needs)
+    (λ c. search needs)
+    (λ c κs. search needs)
+    (λ c. search needs)
+    returns-3)

@@ -1,46 +1,36 @@
--- `motmotdivan_rate` meets its contract: the code as it was found, and the limits into a result of the right length, which are zeros after a refusal.
-use mathlib.Core.Path.{_≡_, refl, ap, _∙_}
-use lib.ListN.{length}
+-- `motmotdivan_rate` meets its contract: 21, or what rating gives by the bytes of the class.
+use mathlib.Core.Path.{sym, _∙_}
 use borrow.Author.Needs.{needs}
-use borrow.Author.Tests.{eq-eqb, ne-eqb}
-use Rattle.motmotdivan.specs.declared.quote.Quote.{Quote}
-use Rattle.motmotdivan.specs.Record.{resultRecord}
-use Rattle.motmotdivan.specs.Calls.{Answer, result, refusal, answerCode, answerRecord, rateAnswer, rateCode, rateRecord}
-use Rattle.motmotdivan.specs.Views.{quoteOf}
-use Rattle.motmotdivan.proofs.Results.{no-result}
+use Rattle.motmotdivan.specs.Desk.{classRateCode, classRateRecord}
 use Rattle.motmotdivan.proofs.motmotdivan_rate.Statement.{statement}
 use Rattle.motmotdivan.proofs.motmotdivan_rate.Tie as tie
 
--- a quote has the answer's code, and the answer's record
-code-is : (a : Answer) → quoteOf a .code ≡ answerCode a
-code-is (result l) = refl
-code-is (refusal n p) = refl
-
-record-is : (a : Answer) → resultRecord (quoteOf a .limits) ≡ answerRecord a
-record-is (result l) = refl
-record-is (refusal n p) = no-result
-
 returns : tie.Need-returns
-unfolding rateCode rateRecord
+unfolding classRateCode classRateRecord
 returns c =
-    let q = c .before .before in
-    let a = q .before .before .before .before .args in
-    let o = rateAnswer (a .state .now) (a .ranges .now) (length (a .result .now)) in
-    (ap (λ (x : Quote). x .code) (q .quoted .ensures) ∙ code-is o, simp (ne-eqb (length (a .result .now)) 192 (c .if1 .taken)))
+    let l = c .before .before in
+    let i = l .before .before .before in
+    let known = sym (i .before .is-class .ensures) ∙ i .if1 .taken in
+    let bytes = l .before .before .bytes-of .ensures in
+    (l .rate .ensures .0 ∙ simp (known, bytes), l .rate .ensures .1 ∙ simp (known, bytes))
 
 returns-2 : tie.Need-returns-2
-unfolding rateCode rateRecord
+unfolding classRateCode classRateRecord
 returns-2 c =
-    let p = c .before .before in
-    let i = p .before .before in
-    let q = i .before .before in
-    let a = q .before .before .before .before .args in
-    let o = rateAnswer (a .state .now) (a .ranges .now) (length (a .result .now)) in (
-      ap (λ (x : Quote). x .code) (q .quoted .ensures) ∙ code-is o,
-      p .put-result .ensures ∙ ap (λ (x : Quote). resultRecord (x .limits)) (q .quoted .ensures) ∙ record-is o
-          ∙ simp (eq-eqb (length (a .result .now)) 192 (i .if1 .left)),
-    )
+    let l = c .before .before in
+    let i = l .before .before in
+    let unknown = sym (i .before .is-class .ensures) ∙ i .if1 .left in
+    (simp unknown, l .clear-result .ensures ∙ simp unknown)
 
 pub motmotdivan-rate-spec : {M : Type 1} → statement M
 motmotdivan-rate-spec =
-    tie.close (tie.spec (λ c κs. search needs) returns (λ c κs. search needs) (λ c. search needs) returns-2)
+    tie.close
+    (tie.spec
+    (λ c κs. search needs)
+    (λ c κs. sym (c .before .is-class .ensures) ∙ c .if1 .taken)
+    (λ c κs. search needs)
+    (λ c κs. search needs)
+    (λ c. search needs)
+    returns
+    (λ c. search needs)
+    returns-2)
