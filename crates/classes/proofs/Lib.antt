@@ -3,3 +3,4 @@ pub mod Called
 pub mod Outcomes
 pub mod Apart
 pub mod Demands
+pub mod Exchange

@@ -17,9 +17,12 @@ pub data Number (k : ℕ) : Type 0 where
   third : k ≡ 3 → Number k
   fourth : k ≡ 4 → Number k
 
-pub which : (k : ℕ) → isClass k ≡ true → Number k
+pub one-to-four : (k : ℕ) → isClass k ≡ true → (1 ≤ k) × (k ≤ 4)
 unfolding isClass
-which k h = let b = both-true (leb 1 k) (leb k 4) h in go k (leb-true 1 k (b .0)) (leb-true k 4 (b .1))
+one-to-four k h = let b = both-true (leb 1 k) (leb k 4) h in (leb-true 1 k (b .0), leb-true k 4 (b .1))
+
+pub which : (k : ℕ) → isClass k ≡ true → Number k
+which k h = let b = one-to-four k h in go k (b .0) (b .1)
   where
     go : (k : ℕ) → 1 ≤ k → k ≤ 4 → Number k
     go zero l m = absurd (omega (arith, l))

@@ -9,6 +9,7 @@ use Rattle.boats.proofs.Exchange.{exchange-fleet}
 use Rattle.bisection.proofs.Exchange.{exchange-cut}
 use Rattle.bisection.proofs.Deeper.{deeper-cut, cut-inside-plain}
 use Rattle.increments.proofs.Exchange.{exchange-sisters}
+use Rattle.classes.proofs.Exchange.{exchange-class-calls}
 use Rattle.motmotdivan.proofs.Exchange.{exchange-classes}
 use Rattle.text.proofs.Exchange as rate
 use Rattle.fleet_text.proofs.Exchange as fleet
@@ -25,6 +26,7 @@ laws = record {
   exchange-fleet = exchange-fleet;
   exchange-cut = exchange-cut;
   exchange-sisters = exchange-sisters;
+  exchange-class-calls = exchange-class-calls;
   exchange-c = exchange-classes;
   exchange-rate-printed = rate.exchange-printed;
   exchange-fleet-printed = fleet.exchange-printed;

@@ -10,6 +10,7 @@ use Rattle.boats.specs.Exchange.{ExchangeFleet}
 use Rattle.bisection.specs.Exchange.{ExchangeCut}
 use Rattle.bisection.specs.Deeper.{DeeperCut, CutInsidePlain}
 use Rattle.increments.specs.Exchange.{ExchangeSisters}
+use Rattle.classes.specs.Exchange.{ExchangeClassCalls}
 use Rattle.motmotdivan.specs.Exchange.{ExchangeClasses}
 use Rattle.text.specs.Exchange as rate
 use Rattle.fleet_text.specs.Exchange as fleet
@@ -32,6 +33,8 @@ pub record CommitteeLaws : Type 0 where
   pub exchange-cut : ExchangeCut
   -- of the sister boats (request 7)
   pub exchange-sisters : ExchangeSisters
+  -- of all these by class number (request 13)
+  pub exchange-class-calls : ExchangeClassCalls
   -- of the C functions (requests 10 and 13), by class number: the same codes, and the same bytes of a result
   pub exchange-c : ExchangeClasses
   -- of what the programs print (that of `tidy` is part of `exchange-tidy`)

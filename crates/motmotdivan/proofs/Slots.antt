@@ -1,23 +1,17 @@
 -- The bytes of the classes on a desk of the right length: 512 each, and those put for one class are no other's.
-use Prim.Native.Nat.{ℕ, _+_, _-_, _≤_}
+use Prim.Native.Nat.{ℕ, _+_, _-_}
 use mathlib.Core.Bool.{true}
 use mathlib.Core.List.{List, _++_}
 use mathlib.Core.Path.{_≡_, sym, ap, _∙_}
 use native.Mathlib.Decide.{decLt}
 use native.Mathlib.Omega.{arith}
-use lib.Dec.{leb}
 use lib.ListN.{length, take, drop, length-drop}
 use lib.Seq.{length-take-le, drop-drop, take-at, drop-at}
-use borrow.Author.Tests.{leb-true}
 use borrow.Rule.Slice.PartMut.{same-len-mid, put-same, take-put, drop-put}
-use Rattle.codelist.proofs.Laws.{both-true}
 use Rattle.classes.specs.Classes.{isClass}
+use Rattle.classes.proofs.Numbers.{one-to-four}
 use Rattle.motmotdivan.specs.Desk.{deskLength, slotAt, slot, withSlot}
 use Rattle.motmotdivan.proofs.Lowest.{same-part}
-
-pub one-to-four : (k : ℕ) → isClass k ≡ true → (1 ≤ k) × (k ≤ 4)
-unfolding isClass
-one-to-four k h = let b = both-true (leb 1 k) (leb k 4) h in (leb-true 1 k (b .0), leb-true k 4 (b .1))
 
 pub width : (a : ℕ) → a + 512 - a ≡ 512
 width a = omega arith

@@ -1,6 +1,6 @@
 -- `start_of` meets its contract: a class number is 1 to 4.
 use borrow.Author.Needs.{needs}
-use Rattle.motmotdivan.proofs.Slots.{one-to-four}
+use Rattle.classes.proofs.Numbers.{one-to-four}
 use Rattle.motmotdivan.proofs.desk.start_of.Statement.{statement}
 use Rattle.motmotdivan.proofs.desk.start_of.Tie as tie
 
