@@ -187,8 +187,8 @@ impl Classes {
     }
 }
 
-// The page of a lent list of boats. This routine, which holds a lent slice of structs, is proved by hand: so the test of the class is elsewhere, and no routine
-// of a value.
+// The page of a lent list of boats. A routine that holds a lent slice of structs is proved by hand: so this one has no branch, and the class is tested by what
+// makes the answer.
 pub fn fleet_of_boats(class: u64, classes: Classes, boats: &[Boat]) -> ClassFleet
     ensures { λ r. ⌜ r ≡ classFleet classes class (numbersOf (now (boats .entry))) ⌝ }
 {
