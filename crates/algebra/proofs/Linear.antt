@@ -174,8 +174,10 @@ module _ {R : Type 0} (𝓞 : OrderedRing R) where
 
   split-if : (b : Bool) (t : Term) → VanishesIf b t → T b × Vanishes t
   split-if true t v = (tt, v)
+  split-if false t v = elim v [ ]
 
   verified : (f : Found) (g : Poly) (Γ : List Fact) (ρ : List R) → Verified f g Γ → Facts ρ Γ → 𝟘 ≤ val 𝓡 g ρ
+  verified none g Γ ρ v F = elim v [ ]
   verified (combo k ks c) g Γ ρ v F =
       let s = add_p (combine ks Γ) (con c 0) in
       let e : val 𝓡 (con (suc k) 0) ρ * val 𝓡 g ρ - val 𝓡 s ρ ≡ 𝟘 =

@@ -93,9 +93,11 @@ Vanishes (term p n e) = Remains p n e
 
 vanish-if : (p n e : ℕ) (b : Bool) → Vanishes (term_if p n e b) → T b
 vanish-if p n e true t = tt
+vanish-if p n e false t = elim t [ ]
 
 vanish-both : (s t : Term) → Vanishes (or_else s t) → Vanishes s × Vanishes t
 vanish-both none t v = (tt, v)
+vanish-both (term _ _ _) t v = elim v [ ]
 
 -- ── the value of a polynomial at a list of values, of which those past the end are zero
 module _ {R : Type 0} (𝓡 : CommRing R) where

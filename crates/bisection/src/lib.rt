@@ -1,5 +1,7 @@
 // Classes cut finer (02, request 6): a class is cut in two at the middle of its widest range, each half in the same way to a depth of 0 to 6,
 // and the limits of the parts are hulled.
+#![tactic(auto)]
+
 ghost use Rattle.std.specs.Prelude.{◌≡◌, ◌≤◌, length, take};
 ghost use Rattle.bisection.specs.Cut.{number_of, place_of, outcome_of, refused_with, is_depth, cut_of};
 
@@ -14,7 +16,7 @@ mod parts; // parts.rt: the recursion on the two halves
 const MOST_DEPTH: i64 = 6;
 
 // Why a class is not rated in parts.
-#[derive(Drop)]
+#[derive(Clone, Copy)]
 pub enum Refusal {
     // 16: the depth is not 0 to 6.
     Depth,
@@ -22,14 +24,14 @@ pub enum Refusal {
     Rate(rules::Refusal),
 }
 
-#[derive(Drop)]
+#[derive(Clone, Copy)]
 pub enum Outcome {
     Accepted,
     Refused(Refusal),
 }
 
 // The answer: after a refusal every field of the limits is 0.
-#[derive(Drop)]
+#[derive(Clone, Copy)]
 pub struct Bisected {
     pub outcome: Outcome,
     pub limits: Limits,

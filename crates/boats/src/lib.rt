@@ -1,4 +1,6 @@
 // The fleet page (02, request 3): figures over the members' boats, each rated by the engine as a class of one point.
+#![tactic(auto)]
+
 ghost use Rattle.std.specs.Prelude.{◌≡◌, ◌<◌, length, get_or};
 ghost use Rattle.boats.specs.Boats.{numbers_of};
 ghost use Rattle.boats.specs.Fleet.{number_of, place_of, fleet_of, fleet_of_numbers};
@@ -15,14 +17,14 @@ mod totals; // totals.rt: the running total over the boats
 const MOST_BOATS: usize = 1000;
 
 // A boat of n factors is the first n of its numbers.
-#[derive(Drop)]
+#[derive(Clone, Copy)]
 pub struct Boat {
     pub numbers: [i64; 8],
 }
 
 // The figures: how many boats are accepted, how many are refused with 9, 11 and 12, the sums of the accepted boats' value ends, and the
 // position, from 1, of the first boat with the greatest high end; 0 if no boat is accepted.
-#[derive(Drop)]
+#[derive(Clone, Copy)]
 pub struct Report {
     pub accepted: u64,
     pub range: u64,
@@ -34,7 +36,7 @@ pub struct Report {
 }
 
 // Why there is no report.
-#[derive(Drop)]
+#[derive(Clone, Copy)]
 pub enum Refusal {
     // 10: there is no codelist.
     NoCodelist,
@@ -42,14 +44,14 @@ pub enum Refusal {
     Boats,
 }
 
-#[derive(Drop)]
+#[derive(Clone, Copy)]
 pub enum Outcome {
     Reported,
     Refused(Refusal),
 }
 
 // The answer. After a refusal every figure is 0.
-#[derive(Drop)]
+#[derive(Clone, Copy)]
 pub struct Counted {
     pub outcome: Outcome,
     pub report: Report,

@@ -9,7 +9,7 @@ use engine::{Engine, Outcome};
 use range::Range;
 
 // `greatest` is 0 where no boat is accepted yet, and `top` is then no high end.
-#[derive(Drop)]
+#[derive(Clone, Copy)]
 pub(crate) struct Sum {
     pub accepted: u64,
     pub range: u64,

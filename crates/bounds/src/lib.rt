@@ -1,6 +1,8 @@
 // Rating: the rules of 01 for the lines of a codelist, over the ranges of its factors.
 // The lines stand in a table of plain numbers: a row reads those that it refers to where they lie, and writes its own. A line is refused where
 // one of its ranges passes the limit, so that whatever a later line refers to is valid, and its sums and products need not test their operands.
+#![tactic(auto)]
+
 ghost use Rattle.std.specs.Prelude.{◌≡◌};
 ghost use Rattle.encoding.specs.Decode.{lent_codelist};
 ghost use Rattle.rules.specs.Rate.{pairs, first_bad, rate_of};

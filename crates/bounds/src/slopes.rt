@@ -14,7 +14,7 @@ use super::{table, valid};
 use range::Range;
 
 // The slopes of a line, and whether it is valid: all of them, or, once its row is done, all its ranges.
-#[derive(Drop)]
+#[derive(Clone, Copy)]
 pub struct Slopes {
     pub gradient: [Range; 8],
     pub valid: bool,

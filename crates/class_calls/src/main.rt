@@ -1,5 +1,7 @@
 // The calls of four classes on one desk, one after another (02, request 13). Writes a line for each call: its class, the refusal's number and place, 0 at 0 where
 // it is accepted, and what the call gives: of a rating, cut or not, the ends of the value, of a page the boats accepted and the sums, of two boats the two ends.
+#![tactic(auto)]
+
 use boats::Boat;
 use classes::{ClassFleet, Classes, Outcome};
 use libc::STDOUT_FILENO;

@@ -1,5 +1,7 @@
 // Four classes on one desk (02, request 13): four engines by their class numbers 1 to 4. Loading one class leaves the others alone. Each call is the engine's
 // with the class number before its other parameters; another number than 1 to 4 is refused with 21, before everything else.
+#![tactic(auto)]
+
 ghost use Rattle.std.specs.Prelude.{◌≡◌};
 ghost use Rattle.boats.specs.Boats.{numbers_of};
 ghost use Rattle.classes.specs.Classes.{is_class, empty_classes};
@@ -14,7 +16,7 @@ mod answers; // answers.rt: what an engine's call gave, as the answer of a class
 mod engines; // engines.rt: the engine of a class number
 
 // Classes 1 to 4 in this order, each empty or with a codelist.
-#[derive(Drop)]
+#[derive(Clone, Copy)]
 pub struct Classes {
     pub first: Engine,
     pub second: Engine,
@@ -22,7 +24,7 @@ pub struct Classes {
     pub fourth: Engine,
 }
 
-#[derive(Drop)]
+#[derive(Clone, Copy)]
 pub enum Refusal {
     // 21: the number is no class's
     Class,
@@ -33,35 +35,35 @@ pub enum Refusal {
     Edge(margin::Refusal),
 }
 
-#[derive(Drop)]
+#[derive(Clone, Copy)]
 pub enum Outcome {
     Accepted,
     Refused(Refusal),
 }
 
 // What loading gives: after a refusal all four classes are what they were.
-#[derive(Drop)]
+#[derive(Clone, Copy)]
 pub struct ClassLoading {
     pub outcome: Outcome,
     pub classes: Classes,
 }
 
 // What rating gives, cut or not: after a refusal every field of the limits is 0.
-#[derive(Drop)]
+#[derive(Clone, Copy)]
 pub struct ClassRating {
     pub outcome: Outcome,
     pub limits: Limits,
 }
 
 // A fleet page: after a refusal every figure is 0.
-#[derive(Drop)]
+#[derive(Clone, Copy)]
 pub struct ClassFleet {
     pub outcome: Outcome,
     pub report: Report,
 }
 
 // How far apart the premiums of two boats may be: after a refusal both ends are 0.
-#[derive(Drop)]
+#[derive(Clone, Copy)]
 pub struct ClassDifference {
     pub outcome: Outcome,
     pub low: i64,
@@ -69,7 +71,7 @@ pub struct ClassDifference {
 }
 
 // How near the edge a class is: the factor and the units, as of `margin`.
-#[derive(Drop)]
+#[derive(Clone, Copy)]
 pub enum ClassEdge {
     Widen(u8, u8),
     Nowhere,

@@ -1,4 +1,6 @@
 // The codelist (01's sheet): bytes become a codelist, or one refusal with its place.
+#![tactic(auto)]
+
 ghost use Rattle.std.specs.Prelude.{◌≡◌};
 ghost use Rattle.codelist.specs.Codelist.{well_formed_op, ratable};
 ghost use Rattle.codelist.specs.Read.{begins_with, field_from, pair_from};
@@ -30,7 +32,7 @@ const TAB: u8 = 9;
 const LINE_END: u8 = 10;
 
 // An operation. A reference is the number of a codelist line, from 1; a constant is in units.
-#[derive(Drop)]
+#[derive(Clone, Copy)]
 pub enum Op {
     Add(u8, u8),
     Mul(u8, u8),
@@ -41,14 +43,14 @@ pub enum Op {
 }
 
 // An element of the array of operations.
-#[derive(Drop)]
+#[derive(Clone, Copy)]
 pub struct Entry {
     pub op: Op,
 }
 
 // The year of the rules that a codelist is rated by (02, request 9): "2016, or absent, means the rules so far; 2014 means source document 001,
 // Table 2". An enum, so that no codelist has another one.
-#[derive(Drop)]
+#[derive(Clone, Copy)]
 pub enum Year {
     Y2016,
     Y2014,
@@ -56,7 +58,7 @@ pub enum Year {
 
 // Codelist lines 1 to `factors` are the factors, and the next `count` ones are the operations, from the front of `ops`. Every
 // further entry is `Inv(0)`, which is no operation of a codelist.
-#[derive(Drop)]
+#[derive(Clone, Copy)]
 pub struct Codelist {
     pub factors: u8,
     pub count: u8,
@@ -79,7 +81,7 @@ impl Codelist {
 }
 
 // Why a text is refused: 01's refusals 1 to 7, and 15 and 17 of 02. The number held is that of the text line, from 1.
-#[derive(Drop)]
+#[derive(Clone, Copy)]
 pub enum Refusal {
     // 1: more than 4,096 bytes.
     TooLong,
@@ -142,21 +144,21 @@ impl Refusal {
 }
 
 // Whether a text was accepted, or why not.
-#[derive(Drop)]
+#[derive(Clone, Copy)]
 pub enum Outcome {
     Accepted,
     Refused(Refusal),
 }
 
 // What loading gives. Where it refuses, the codelist is the empty one: no factors, no operations.
-#[derive(Drop)]
+#[derive(Clone, Copy)]
 pub struct Loaded {
     pub outcome: Outcome,
     pub codelist: Codelist,
 }
 
 // A numeral as it is written: whether it has a minus sign, and the number that its digits write.
-#[derive(Drop)]
+#[derive(Clone, Copy)]
 pub struct Numeral {
     pub negative: bool,
     pub magnitude: u64,
@@ -177,14 +179,14 @@ impl Numeral {
 }
 
 // What stands at a place of the text: a numeral with the place after it, or none.
-#[derive(Drop)]
+#[derive(Clone, Copy)]
 pub enum NumeralRead {
     Good(Numeral, usize),
     Bad,
 }
 
 // What stands at a place of the text: two numerals with the place after their line, or none.
-#[derive(Drop)]
+#[derive(Clone, Copy)]
 pub enum PairRead {
     Good(Numeral, Numeral, usize),
     Bad,

@@ -6,7 +6,7 @@ ghost use Rattle.codelist.specs.Views.{of_literal, of_word, of_line, of_first};
 use super::{LINE_END, Numeral, NumeralRead, PairRead, numerals};
 
 // The word that an operation line begins with.
-#[derive(Drop)]
+#[derive(Clone, Copy)]
 pub(crate) enum Word {
     Add,
     Mul,
@@ -17,7 +17,7 @@ pub(crate) enum Word {
 }
 
 // An operation line as it is written: its word and its numerals. The one numeral of a line `inv` stands here twice.
-#[derive(Drop)]
+#[derive(Clone, Copy)]
 pub(crate) struct LineParts {
     pub word: Word,
     pub left: Numeral,
@@ -25,33 +25,33 @@ pub(crate) struct LineParts {
 }
 
 // What the readers find at a place of the text, each with the place after it.
-#[derive(Drop)]
+#[derive(Clone, Copy)]
 pub(crate) enum LiteralRead {
     Good(usize),
     Bad,
 }
 
-#[derive(Drop)]
+#[derive(Clone, Copy)]
 enum WordRead {
     Good(Word, usize),
     Bad,
 }
 
-#[derive(Drop)]
+#[derive(Clone, Copy)]
 pub(crate) enum LineRead {
     Good(LineParts, usize),
     Bad,
 }
 
 // The third field of the first line as it is written (02, request 9): none, or the numeral of a year.
-#[derive(Drop)]
+#[derive(Clone, Copy)]
 pub(crate) enum ThirdField {
     Absent,
     Written(Numeral),
 }
 
 // The first line: its n, its third field, and the place after it.
-#[derive(Drop)]
+#[derive(Clone, Copy)]
 pub(crate) enum FirstRead {
     Good(Numeral, ThirdField, usize),
     Bad,

@@ -12,14 +12,14 @@ use super::{
 };
 
 // An operation line that keeps the rules, or the refusal of one that does not.
-#[derive(Drop)]
+#[derive(Clone, Copy)]
 enum Checked {
     Fine(Op),
     Fault(Refusal),
 }
 
 // The year that a field names, or that it names none.
-#[derive(Drop)]
+#[derive(Clone, Copy)]
 pub(crate) enum YearNamed {
     Known(Year),
     Unknown,

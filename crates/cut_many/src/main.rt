@@ -1,6 +1,8 @@
 // The program `cut`, with its call made as often as the first argument says: for measuring it. With the second argument `rate` the ratings of the program
 // `rate`, to hold it beside. A program of its own: in one program with `cut` every rating is a call more, with a copy of the codelist, and `rate_many`
 // is there to time ratings as `rate` makes them.
+#![tactic(auto)]
+
 ghost use Rattle.std.specs.Prelude.{◌≤◌, length};
 
 use codelist::NumeralRead;

@@ -1,4 +1,6 @@
 // The text side of the program `cut` (02, request 6): its first line, which has the depth. What follows it is read and printed as by `rate`.
+#![tactic(auto)]
+
 ghost use Rattle.std.specs.Prelude.{◌≡◌, cond, ◌≤◌, length, drop};
 ghost use Rattle.codelist.specs.Read.{good, bad, literal};
 ghost use Rattle.writer.specs.Lent.{lent, put_text};

@@ -1,4 +1,6 @@
 // A codelist as 512 bytes at fixed offsets (docs/STATE.md): a load writes them, and `head` and `op_at` read them back, whatever bytes they are.
+#![tactic(auto)]
+
 ghost use Rattle.std.specs.Prelude.{◌≡◌, ◌+◌, ◌*◌, ◌≤◌, ◌<◌, nat_abs, length, take, drop, replicate};
 ghost use Rattle.std.proofs.lemmas.List.Edits.{sets};
 ghost use Rattle.exact.specs.Units.{limit};
@@ -21,14 +23,14 @@ const MOST_OPS: usize = 63;
 const LIMIT: i64 = 2_000_000_000;
 
 // What stands at the front of the bytes: the factors, the operations and the year, or that the bytes are no codelist's.
-#[derive(Drop)]
+#[derive(Clone, Copy)]
 pub enum HeadRead {
     Good(u8, u8, Year),
     Bad,
 }
 
 // What stands at the place of an operation: a well formed one, or none.
-#[derive(Drop)]
+#[derive(Clone, Copy)]
 pub enum OpRead {
     Good(Op),
     Bad,

@@ -1,4 +1,6 @@
 // The engine of 01 (its "desk"): it holds one codelist or none, loads one from bytes, and rates ranges against it.
+#![tactic(auto)]
+
 ghost use Rattle.std.specs.Prelude.{◌≡◌};
 ghost use Rattle.engine.specs.Engine.{number_of, place_of, empty_engine, loaded, loaded_of, formula_loaded_of, outcome_of, as_rating, rated_of};
 ghost use Rattle.rules.specs.Rate;
@@ -9,13 +11,13 @@ use rules::Limits;
 // Started empty; loading replaces the codelist, or, refused, keeps it. A codelist that can't be rated counts as none, as that of an empty engine:
 // one without factors or operations, with too many of them, or with an operation that is not well formed, as one that refers to a line that is
 // not earlier, or multiplies by 0.
-#[derive(Drop)]
+#[derive(Clone, Copy)]
 pub struct Engine {
     pub codelist: Codelist,
 }
 
 // 01's refusals 1 to 12, and 15, 17, 19 and 20 of 02.
-#[derive(Drop)]
+#[derive(Clone, Copy)]
 pub enum Refusal {
     // 1 to 7, 15 and 17
     Load(codelist::Refusal),
@@ -25,21 +27,21 @@ pub enum Refusal {
     Formula(formulas::Refusal),
 }
 
-#[derive(Drop)]
+#[derive(Clone, Copy)]
 pub enum Outcome {
     Accepted,
     Refused(Refusal),
 }
 
 // What loading gives: after a refusal the engine is what it was.
-#[derive(Drop)]
+#[derive(Clone, Copy)]
 pub struct Loading {
     pub outcome: Outcome,
     pub engine: Engine,
 }
 
 // What rating gives: after a refusal every field of the limits is 0.
-#[derive(Drop)]
+#[derive(Clone, Copy)]
 pub struct Rating {
     pub outcome: Outcome,
     pub limits: Limits,

@@ -1,6 +1,8 @@
 // The engine's calls one after another (01: "A desk is started empty, a sheet is loaded from bytes, and ranges are rated against the loaded sheet.
 // Loading replaces an earlier sheet. Rating changes nothing on the desk."). Writes a line for each call: the refusal's number and place, 0 at 0 where
 // the call is accepted; and for a rating, whose limits it gives: 0 where every field of them is 0, 1 those of the square, 2 those of the sum, 3 others.
+#![tactic(auto)]
+
 use codelist::{Codelist, Entry, Op, Year};
 use engine::{Engine, Outcome};
 use libc::STDOUT_FILENO;

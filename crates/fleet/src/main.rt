@@ -1,5 +1,7 @@
 // The program `fleet` of 02, request 3: what `fleet_text::answer` says of standard input. A byte more than the most is read, so that a longer
 // input shows.
+#![tactic(auto)]
+
 fn main() {
     let mut input = [0u8; 102401];
     let n = io::read_full(0, &mut input);

@@ -1,4 +1,6 @@
 // The text side of the program `fleet` (02, request 3): where the sheet ends, the boat lines, and what is printed.
+#![tactic(auto)]
+
 ghost use Rattle.std.specs.Prelude.{◌≡◌, true};
 ghost use Rattle.writer.specs.Lent.{lent, put_text};
 ghost use Rattle.text.specs.Input.{sheet_length};
@@ -20,7 +22,7 @@ mod lines; // lines.rt: the boat lines
 const MOST_INPUT: usize = 102_400;
 
 // The form in which the boats are handed over.
-#[derive(Drop)]
+#[derive(Clone, Copy)]
 pub enum Form {
     Numbers,
     Structs,

@@ -16,7 +16,7 @@ const MOST_BOATS: usize = 1000;
 const NO_BOAT: Boat = Boat { numbers: [0i64; 8] };
 
 // What stands at a place of the text: a boat with the place after its line; `good` is false where the line has another form.
-#[derive(Drop)]
+#[derive(Clone, Copy)]
 struct BoatLine {
     good: bool,
     boat: Boat,
@@ -24,7 +24,7 @@ struct BoatLine {
 }
 
 // The boats of the lines, the first `count`; `good` is false where a line has another form, or where there are more than 1,000.
-#[derive(Drop)]
+#[derive(Clone, Copy)]
 pub(crate) struct Boats {
     pub good: bool,
     pub count: usize,

@@ -1,5 +1,7 @@
 // The program `formula` of 02, request 12: what `formulas::answer` says of standard input. More bytes are read than a first line and a formula of 1,024
 // bytes have, so that a longer text shows.
+#![tactic(auto)]
+
 fn main() {
     let mut input = [0u8; 2048];
     let n = io::read_full(0, &mut input);

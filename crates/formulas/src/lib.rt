@@ -1,4 +1,6 @@
 // Formulas as members write them (02, request 12): a text and a factor count become a sheet.
+#![tactic(auto)]
+
 ghost use Rattle.std.specs.Prelude.{◌≡◌, ◌≤◌};
 ghost use Rattle.formulas.specs.Convert.{count_of};
 ghost use Rattle.formulas.specs.Load.{number_of, place_of, sheet_for, converted_of, buffer_of};
@@ -16,7 +18,7 @@ mod reader; // reader.rt: sums, products and atoms
 const LONGEST: usize = 1024;
 
 // Why a text becomes no sheet.
-#[derive(Drop)]
+#[derive(Clone, Copy)]
 pub enum Refusal {
     // 19: it is no formula; the place is that of a byte, from 1.
     Text(u64),
@@ -25,7 +27,7 @@ pub enum Refusal {
 }
 
 // What a text becomes.
-#[derive(Drop)]
+#[derive(Clone, Copy)]
 pub enum Converted {
     // a sheet of so many bytes; of a sheet that is too long, 4,097
     Sheet(usize),
@@ -110,7 +112,7 @@ pub fn convert(text: &[u8], factors: u64, sheet: &mut [u8; 4097]) -> Converted
 }
 
 // What the program `formula` prints: the first `len` bytes.
-#[derive(Drop)]
+#[derive(Clone, Copy)]
 pub struct Output {
     pub bytes: [u8; 4097],
     pub len: usize,

@@ -36,7 +36,7 @@ const CARET: u64 = 94;
 const LETTER: u64 = 102;
 
 // The four signs between two operands.
-#[derive(Drop)]
+#[derive(Clone, Copy)]
 pub(crate) enum Sign {
     Plus,
     Minus,
@@ -45,14 +45,14 @@ pub(crate) enum Sign {
 }
 
 // The sign at a place, where there is one.
-#[derive(Drop)]
+#[derive(Clone, Copy)]
 pub(crate) enum SignRead {
     Sign(Sign),
     Nothing,
 }
 
 // An operand: a constant in units, or the number of the codelist line that holds it.
-#[derive(Drop)]
+#[derive(Clone, Copy)]
 pub(crate) enum Operand {
     Fixed(u64),
     Line(u64),
@@ -60,7 +60,7 @@ pub(crate) enum Operand {
 
 // After an operand: the place, the operand, and what was written of the sheet: its operation lines and its bytes. Where constants met, what was
 // written and the operand mean nothing any more.
-#[derive(Drop)]
+#[derive(Clone, Copy)]
 pub(crate) struct State {
     pub(crate) at: usize,
     pub(crate) operand: Operand,
@@ -70,14 +70,14 @@ pub(crate) struct State {
 }
 
 // What a reader finds: an operand, or the place of the byte that can't follow.
-#[derive(Drop)]
+#[derive(Clone, Copy)]
 pub(crate) enum Read {
     Good(State),
     Stuck(usize),
 }
 
 // Digits: their number, how many they are, and the place after them.
-#[derive(Drop)]
+#[derive(Clone, Copy)]
 struct Run {
     at: usize,
     value: u64,
@@ -85,7 +85,7 @@ struct Run {
 }
 
 // A constant in units, and the place after it.
-#[derive(Drop)]
+#[derive(Clone, Copy)]
 enum ConstantRead {
     Good(u64, usize),
     Stuck(usize),

@@ -1,4 +1,6 @@
 // Two boats of one class (02, request 7): from the slopes of the class's limits, how far apart their premiums may be. All values are in units.
+#![tactic(auto)]
+
 ghost use Rattle.std.specs.Prelude.{◌≡◌};
 ghost use Rattle.rules.specs.Rate.{pairs};
 ghost use Rattle.increments.specs.Call.{refused_with, boats_of, sisters_of};
@@ -11,7 +13,7 @@ mod class; // class.rt: whether both boats are of the class
 mod total; // total.rt: the sums of the products
 
 // The answer: after a refusal both ends are 0.
-#[derive(Drop)]
+#[derive(Clone, Copy)]
 pub struct Difference {
     pub outcome: Outcome,
     pub low: i64,

@@ -17,7 +17,7 @@ fn floor_div(x: i64) -> i64
 }
 
 // A sum of products, exact: 10,000 times `whole`, and `rest`. Eight products of slopes and differences may not fit 64 bits.
-#[derive(Drop)]
+#[derive(Clone, Copy)]
 struct Total {
     whole: i64,
     rest: i64,

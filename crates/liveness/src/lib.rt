@@ -1,4 +1,6 @@
 // Tidied sheets (02, request 1): the same sheet without the operation lines that its last line does not use.
+#![tactic(auto)]
+
 ghost use Rattle.std.specs.Prelude.{◌≡◌, length};
 ghost use Rattle.codelist.specs.Codelist.{WellFormed};
 ghost use Rattle.codelist.specs.Write.{text_of};
@@ -13,7 +15,7 @@ mod renumbering; // renumbering.rt: the new numbers
 mod writing; // writing.rt: the text
 
 // Why nothing is written.
-#[derive(Drop)]
+#[derive(Clone, Copy)]
 pub enum Refusal {
     // 1 to 7, 15 and 17: the sheet is refused.
     Load(codelist::Refusal),
@@ -21,7 +23,7 @@ pub enum Refusal {
     Short,
 }
 
-#[derive(Drop)]
+#[derive(Clone, Copy)]
 pub enum Outcome {
     // so many bytes
     Written(usize),
@@ -81,7 +83,7 @@ pub fn tidy(bytes: &[u8], buffer: &mut [u8]) -> Outcome
 }
 
 // What the program `tidy` prints: the first `len` bytes.
-#[derive(Drop)]
+#[derive(Clone, Copy)]
 pub struct Output {
     pub bytes: [u8; 4096],
     pub len: usize,

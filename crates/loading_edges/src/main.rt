@@ -4,6 +4,8 @@
 //
 // A line of the table is `number place text`, or `#` and a comment. In a text `\t`, `\n`, `\r` are the bytes 9, 10 and 13, `\0` is 0 and `\x`
 // is 255; `\(..\)62;` is what stands between the brackets, 62 times.
+#![tactic(auto)]
+
 ghost use Rattle.std.specs.Prelude.{◌≤◌, length};
 
 use codelist::Outcome;
@@ -13,7 +15,7 @@ use libc::{STDIN_FILENO, STDOUT_FILENO};
 type Text = [u8; 4200];
 
 // How many edges were tried, how many were missed, and the length of the longest text that was accepted.
-#[derive(Drop)]
+#[derive(Clone, Copy)]
 struct Tally {
     tried: u64,
     missed: u64,
@@ -21,7 +23,7 @@ struct Tally {
 }
 
 // What loading makes of a text.
-#[derive(Drop)]
+#[derive(Clone, Copy)]
 struct Found {
     number: u8,
     place: u64,
@@ -170,7 +172,7 @@ const TIMES: u8 = 4;
 const COMMENT: u8 = 5;
 
 // What is read of a line, and where its text ends that was written so far.
-#[derive(Drop)]
+#[derive(Clone, Copy)]
 struct Line {
     mode: u8,
     number: u64,

@@ -1,5 +1,7 @@
 // How near the edge a class is (02, request 14): the smallest widening of one range's high end, 1 to 100 units, after which plain rating is refused or the
 // value's high end passes a ceiling.
+#![tactic(auto)]
+
 ghost use Rattle.std.specs.Prelude.{◌≡◌};
 ghost use Rattle.margin.specs.Edge.{number_of, place_of, is_ceiling, edge_for};
 
@@ -13,7 +15,7 @@ mod widen; // widen.rt: a range widened, and what rating then says
 const LIMIT: i64 = 2_000_000_000;
 
 // Why no edge is looked for.
-#[derive(Drop)]
+#[derive(Clone, Copy)]
 pub enum Refusal {
     // 8 to 12: the ranges are refused by themselves
     Rate(rules::Refusal),
@@ -21,7 +23,7 @@ pub enum Refusal {
     Ceiling,
 }
 
-#[derive(Drop)]
+#[derive(Clone, Copy)]
 pub enum Edge {
     // the factor, counted from 1, and by how many units its high end is widened
     Widen(u8, u8),

@@ -11,7 +11,7 @@ ghost use Rattle.motmotdivan.specs.Views.{clamped, finite_pattern};
 use super::codes::wide;
 
 // The whole number that a double is, if it is one: the nearest in 64 bits, so that one beyond the limit stays beyond it.
-#[derive(Drop)]
+#[derive(Clone, Copy)]
 pub enum Whole {
     Is(i64),
     Not,

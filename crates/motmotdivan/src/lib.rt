@@ -1,5 +1,7 @@
 // The class-limit engine for a program in C (02, requests 10 and 13): load and rate as two functions on lent bytes, by class number. Both return a refusal's
 // number plus 100 times its place, or 0 where accepted; whatever the numbers and bytes are, there is an outcome, and each byte afterwards is known.
+#![tactic(auto)]
+
 ghost use Rattle.std.specs.Prelude.{◌≡◌};
 ghost use Rattle.motmotdivan.specs.Desk.{class_load_code, class_load_state, class_rate_code, class_rate_record};
 

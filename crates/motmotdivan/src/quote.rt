@@ -8,7 +8,7 @@ use super::{codes, record};
 use rules::{Limits, Outcome, Rating};
 
 // The code, and the limits, of which every field is 0 after a refusal.
-#[derive(Drop)]
+#[derive(Clone, Copy)]
 pub struct Quote {
     pub code: u64,
     pub limits: Limits,

@@ -14,7 +14,7 @@ pub(crate) const RANGES_LENGTH: usize = 128;
 pub(crate) const RESULT_LENGTH: usize = 192;
 
 // "a struct holding an array of f64", of the ranges' ends. No f64 can be made of a NaN's pattern: which doubles are finite stands beside the cells.
-#[derive(Drop)]
+#[derive(Clone, Copy)]
 pub struct Record {
     pub cells: [f64; 16],
     pub finite: [bool; 16],

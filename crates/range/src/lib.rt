@@ -1,6 +1,8 @@
 // Ranges of whole numbers of units: one unit is 1/10,000, and an end is at most 2,000,000,000 units, either sign.
 // Every operation is total. A result with an end beyond the limit is `OVER`, which is no range, and an operand that is no valid range gives
 // `OVER` too: so a caller tests the last of many operations, and not each.
+#![tactic(auto)]
+
 ghost use Rattle.std.specs.Prelude.{◌≡◌, true, ◌&&◌, ◌≤◌, pos, nat_abs, ◌*ℤ◌};
 ghost use Rattle.std.specs.Int.Signed.{le_z, lt_z};
 ghost use Rattle.exact.specs.Div.{floor_div, ceil_div};
@@ -23,7 +25,7 @@ const DIVIDEND_LIMIT: i64 = 10_000 * LIMIT;
 // What 10,000 divides the greatest product to, that of the limit with itself.
 const PRODUCT_SHIFT: i64 = LIMIT / 10_000 * LIMIT;
 
-#[derive(Drop)]
+#[derive(Clone, Copy)]
 pub struct Range {
     pub low: i64,
     pub high: i64,

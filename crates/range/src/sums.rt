@@ -31,7 +31,7 @@ fn range_at(t: &[i32], i: u16, a: usize) -> Range
 }
 
 // An exact sum of squares. Eight squares may not fit 64 bits, so that their quotients and their remainders by 10,000 are added up apart.
-#[derive(Drop)]
+#[derive(Clone, Copy)]
 struct Squares {
     whole: u64,
     rest: u64,

@@ -1,4 +1,6 @@
 // The program `rate` of 01: what `text::answer` says of standard input. A byte more than the most is read, so that a longer input shows.
+#![tactic(auto)]
+
 fn main() {
     let mut input = [0u8; 8193];
     let n = io::read_full(0, &mut input);

@@ -1,4 +1,6 @@
 // The programs `rate` and `fleet`, with their work done as often as the first argument says: for measuring it. The second argument is the job.
+#![tactic(auto)]
+
 ghost use Rattle.std.specs.Prelude.{◌≤◌, length};
 
 use fleet_text::Form;

@@ -1,5 +1,7 @@
 // Rounding at its edges (02, request 8), by the code that runs: dividends about 0, about 10,000 and about 10,000 times the limit, and for the inverse the
 // least and the greatest divisors. Writes a line for each: what is divided, and whether it was rounded to the two ends that stand here beside it.
+#![tactic(auto)]
+
 use libc::STDOUT_FILENO;
 use range::Range;
 

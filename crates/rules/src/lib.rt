@@ -1,8 +1,10 @@
 // The types of rating: what the rules of 01 work out for each codelist line, and the answer.
+#![tactic(auto)]
+
 use range::Range;
 
 // A codelist line, worked out over the ranges of the factors. A set of factors is a mask: the factor a, counted from 0, is the bit a.
-#[derive(Drop)]
+#[derive(Clone, Copy)]
 pub struct Line {
     // 01's V.
     pub value: Range,
@@ -17,7 +19,7 @@ pub struct Line {
 }
 
 // Why ranges are not rated: 01's refusals 8 to 12.
-#[derive(Drop)]
+#[derive(Clone, Copy)]
 pub enum Refusal {
     // 10: there is no codelist.
     NoCodelist,
@@ -31,14 +33,14 @@ pub enum Refusal {
     Overflow(u8),
 }
 
-#[derive(Drop)]
+#[derive(Clone, Copy)]
 pub enum Outcome {
     Rated,
     Refused(Refusal),
 }
 
 // The limits of a class: 01's result.
-#[derive(Drop)]
+#[derive(Clone, Copy)]
 pub struct Limits {
     pub value: Range,
     pub gradient: [Range; 8],
@@ -62,7 +64,7 @@ impl Limits {
 }
 
 // The answer. Where it is a refusal, every field of the limits is 0.
-#[derive(Drop)]
+#[derive(Clone, Copy)]
 pub struct Rating {
     pub outcome: Outcome,
     pub limits: Limits,

@@ -1,5 +1,7 @@
 // The program `sisters` of 02, request 7: what `sisters_text::answer` says of standard input. A byte more than the most is read, so that a longer
 // input shows.
+#![tactic(auto)]
+
 fn main() {
     let mut input = [0u8; 8193];
     let n = io::read_full(0, &mut input);

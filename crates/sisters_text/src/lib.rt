@@ -1,4 +1,6 @@
 // The text side of the program `sisters` (02, request 7): the line that parts the boats from the class, the boat lines, and what is printed.
+#![tactic(auto)]
+
 ghost use Rattle.std.specs.Prelude.{◌≡◌, ◌+◌, ◌≤◌, drop};
 ghost use Rattle.writer.specs.Lent.{lent, put_text};
 ghost use Rattle.text.specs.Answer.{written};

@@ -10,7 +10,7 @@ const TAB: u8 = 9;
 const LINE_END: u8 = 10;
 
 // The values of both boats, the first `count`: none where the lines have another form or number.
-#[derive(Drop)]
+#[derive(Clone, Copy)]
 pub(crate) struct Boats {
     pub count: usize,
     pub values: [i64; 16],

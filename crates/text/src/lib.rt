@@ -1,5 +1,7 @@
 // The text side of the program `rate`: where the sheet ends, the box lines, and what is printed. What is printed is put into lent bytes, piece
 // after piece: each function gives the place after what it put.
+#![tactic(auto)]
+
 ghost use Rattle.std.specs.Prelude.{◌≡◌, true, [], ◌++◌, ◌+◌, ◌≤◌, ◌<◌, length, drop};
 ghost use Rattle.range.specs.Sums as Sums;
 ghost use Rattle.engine.specs.Engine.{rated_of};
@@ -22,7 +24,7 @@ const TAB: u8 = 9;
 const LINE_END: u8 = 10;
 
 // A text: the first `len` bytes; every further one is 0.
-#[derive(Drop)]
+#[derive(Clone, Copy)]
 pub struct Text {
     pub bytes: [u8; 1024],
     pub len: usize,
@@ -170,7 +172,7 @@ pub fn sheet_end(s: &[u8], w: &[u8]) -> usize
 }
 
 // The numbers of the box lines: `good` is false where a line has another form, or where there are more than eight.
-#[derive(Drop)]
+#[derive(Clone, Copy)]
 pub struct Boxes {
     pub good: bool,
     pub count: usize,

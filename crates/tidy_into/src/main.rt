@@ -1,5 +1,7 @@
 // Tidying into a buffer of any length (02, request 1), for the tests: the buffer holds the bytes of the first argument, at most 2,048. Writes the
 // outcome, `written` and how many bytes, or `refused` with number and place, and then the buffer as the call left it.
+#![tactic(auto)]
+
 use libc::{STDIN_FILENO, STDOUT_FILENO};
 use liveness::Outcome;
 

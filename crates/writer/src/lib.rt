@@ -1,4 +1,6 @@
 // Texts put into lent bytes, from a place on: each function gives the place after what it put, and stops where the bytes end.
+#![tactic(auto)]
+
 ghost use Rattle.std.specs.Prelude.{◌≡◌, ◌+◌, ◌<◌, nat_abs};
 ghost use Rattle.writer.specs.Lent.{lent, put, put_text};
 ghost use Rattle.writer.specs.Texts.{natural_text, whole_text, line_of_one, line_of_whole, line_of_two, refused_text};
