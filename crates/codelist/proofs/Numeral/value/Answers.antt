@@ -1,0 +1,40 @@
+-- `Numeral::value` meets its contract: the magnitude that the first test leaves fits, with a minus too.
+use Prim.Native.Nat.{ℕ, ◌≤◌, min}
+use mathlib.Core.Logic.{⊎_elim}
+use mathlib.Core.Path.{◌≡◌, ◌∙◌}
+use native.Mathlib.Omega.{arith}
+use lib.IntN.{pos, ◌-ℤ◌, +ℤ_idl}
+use mir.Facts.{to_z_pos, to_z-of_z}
+use mir.Syntax.{w64}
+use mir.Val.{SFits}
+use Rattle.algebra.proofs.Int.{neg-abs}
+use Rattle.exact.proofs.Machine.{fits-abs}
+use Rattle.codelist.specs.Load.{value_of, saturated}
+use Rattle.codelist.proofs.Numeral.value.Goals as goal
+use Rattle.codelist.proofs.Numeral.value.Goals.{Joined-m-gt-MOST_VALUE}
+
+least : (c : Joined-m-gt-MOST_VALUE) → c.if-m-gt-MOST_VALUE.m ≡ min c.args.self.magnitude 9223372036854775807
+least c = ⊎_elim (λ w. omega arith) (λ w. omega arith) c.if-m-gt-MOST_VALUE.branch
+
+minus-fits : (m : ℕ) → m ≤ 9223372036854775807 → SFits w64 (pos 0 -ℤ pos m)
+minus-fits m h = rw +ℤ_idl (fits-abs _ (rw neg-abs h))
+
+pub overflow_cast-x : goal.overflow_cast-x
+overflow_cast-x c = omega (arith, least c)
+
+pub overflow_sub-result : goal.overflow_sub-result
+overflow_sub-result c = 
+    let h : c.if-m-gt-MOST_VALUE.m ≤ 9223372036854775807 = omega (arith, least c.before) in
+    rw (to_z_pos w64 {n = c.if-m-gt-MOST_VALUE.m} (omega arith)) (minus-fits _ h)
+
+pub returns-then-self : goal.returns-then-self
+unfolding value_of saturated
+returns-then-self c = 
+    let h : c.if-m-gt-MOST_VALUE.m ≤ 9223372036854775807 = omega (arith, least c.before) in
+    rw (to_z_pos w64 {n = c.if-m-gt-MOST_VALUE.m} (omega arith), c.if-self.true, ← least c.before) (to_z-of_z (minus-fits _ h) ∙ +ℤ_idl _)
+
+pub returns-else-self : goal.returns-else-self
+unfolding value_of saturated
+returns-else-self c = 
+    let h : c.if-m-gt-MOST_VALUE.m ≤ 9223372036854775807 = omega (arith, least c.before) in
+    rw (to_z_pos w64 {n = c.if-m-gt-MOST_VALUE.m} (omega arith), c.if-self.false, ← least c.before)
