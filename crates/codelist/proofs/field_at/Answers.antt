@@ -24,7 +24,7 @@ overflow_add-result c = omega (arith, inside c)
 
 pub returns-then-byte_at-wide : goal.returns-then-byte_at-wide
 unfolding field_from field
-returns-then-byte_at-wide c = 
+returns-then-byte_at-wide c =
     let s = c.args.s.now in
     simp (
       sym c.numeral_at.ensures ∙ ap (of_numeral s) c.in-Good.is,
@@ -36,7 +36,7 @@ returns-then-byte_at-wide c =
 
 pub returns-else-byte_at-wide : goal.returns-else-byte_at-wide
 unfolding field_from field
-returns-else-byte_at-wide c = 
+returns-else-byte_at-wide c =
     let s = c.args.s.now in
     simp (
       sym c.numeral_at.ensures ∙ ap (of_numeral s) c.in-Good.is,

@@ -66,23 +66,13 @@ pub returns-in-Mul : goal.returns-in-Mul
 returns-in-Mul c = simp (c.in-Mul.is, c.is_earlier-in-Mul.ensures, c.is_earlier-in-Mul-2.ensures)
 
 pub returns-in-AddC : goal.returns-in-AddC
-returns-in-AddC c = 
-    simp (
-      c.in-AddC.is,
-      c.is_earlier-in-AddC.ensures,
-      c.is_constant.ensures
-          ∙ ap is_constant (back c.in-AddC.c c.known_told-in-AddC-1.given.1.0.1),
-    )
+returns-in-AddC c =
+    simp (c.in-AddC.is, c.is_earlier-in-AddC.ensures, c.is_constant.ensures ∙ ap is_constant (back c.in-AddC.c (search rules)))
 
 pub returns-in-MulC : goal.returns-in-MulC
-returns-in-MulC c = 
-    let z = back c.in-MulC.c c.known_told-in-MulC-1.given.1.0.1 in
-    simp (
-      c.in-MulC.is,
-      c.is_earlier-in-MulC.ensures,
-      c.is_constant-in-MulC.ensures ∙ ap is_constant z,
-      c.is_multiplier.ensures ∙ ap is_multiplier z,
-    )
+returns-in-MulC c =
+    let z = back c.in-MulC.c (search rules) in
+    simp (c.in-MulC.is, c.is_earlier-in-MulC.ensures, c.is_constant-in-MulC.ensures ∙ ap is_constant z, c.is_multiplier.ensures ∙ ap is_multiplier z)
 
 pub returns-in-Pow : goal.returns-in-Pow
 returns-in-Pow c = simp (c.in-Pow.is, c.is_earlier-in-Pow.ensures, c.is_exponent.ensures)

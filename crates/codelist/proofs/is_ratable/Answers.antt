@@ -1,5 +1,4 @@
 -- `is_ratable` meets its contract: what is left to test in the loop is what was to be tested at its start.
-use Prim.Native.Nat.{◌-◌}
 use mathlib.Core.Bool.{true}
 use mathlib.Core.Path.{◌≡◌, sym, ◌∙◌}
 use native.Mathlib.Nat.{add-zero}
@@ -13,21 +12,21 @@ use Rattle.codelist.proofs.is_ratable.Goals as goal
 use Rattle.codelist.proofs.is_ratable.Goals.{Else-not-n-count}
 
 -- What the test before the loop says
-fits : (l : Else-not-n-count) → in_bounds l.args.t1 ≡ true
-fits l = not-false (in_bounds l.args.t1) l.if-not-n-count.false-raw
+fits : (l : Else-not-n-count) → in_bounds l.args.c ≡ true
+fits l = not-false (in_bounds l.args.c) l.if-not-n-count.false-raw
 
 pub returns-then-not-n-count : goal.returns-then-not-n-count
 unfolding ratable
-returns-then-not-n-count c = simp (not-true (in_bounds c.args.t1) c.if-not-n-count.true-raw)
+returns-then-not-n-count c = simp (not-true (in_bounds c.args.c) c.if-not-n-count.true-raw)
 
 pub loop-k-init : goal.loop-k-init
-loop-k-init c = (omega arith, omega (arith, bounded c.args.t1 (fits c)), search (rules, length-mapped), rw add-zero)
+loop-k-init c = (omega arith, omega (arith, bounded c.args.c (fits c)), search (rules, length-mapped), rw add-zero)
 
 pub returns-then-not-is_op_well_formed : goal.returns-then-not-is_op_well_formed
 unfolding ratable
-returns-then-not-is_op_well_formed c = 
+returns-then-not-is_op_well_formed c =
     let i = c.loop-k.invariant in
-    let a = c.args.t1 in
+    let a = c.args.c in
     sym (simp (
       fits c.before.before.before.before.before,
       eq-eqb _ 64 i.2,
@@ -36,9 +35,9 @@ returns-then-not-is_op_well_formed c =
     ))
 
 pub loop-k-preserved : goal.loop-k-preserved
-loop-k-preserved c = 
+loop-k-preserved c =
     let i = c.loop-k.invariant in
-    let a = c.args.t1 in (
+    let a = c.args.c in (
       omega arith,
       i.1,
       i.2,
@@ -48,9 +47,9 @@ loop-k-preserved c =
 
 pub returns : goal.returns
 unfolding ratable
-returns c = 
+returns c =
     let i = c.loop-k.invariant in
-    let a = c.args.t1 in
+    let a = c.args.c in
     sym (simp (
       fits c.before.before,
       eq-eqb _ 64 i.2,

@@ -11,7 +11,7 @@ returns-in-Good c = simp (field-read 10 c.args.s.now _ _ _ (lit< tt) (sym c.fiel
 
 pub returns-in-Good-pair_at : goal.returns-in-Good-pair_at
 unfolding first_fields
-returns-in-Good-pair_at c = 
+returns-in-Good-pair_at c =
     let s = c.args.s.now in
     simp (
       field-unread 10 s _ (lit< tt) (sym c.field_at.ensures ∙ c.in-Bad.is),
@@ -20,7 +20,7 @@ returns-in-Good-pair_at c =
 
 pub returns-in-Bad-pair_at : goal.returns-in-Bad-pair_at
 unfolding first_fields
-returns-in-Bad-pair_at c = 
+returns-in-Bad-pair_at c =
     let s = c.args.s.now in
     simp (
       field-unread 10 s _ (lit< tt) (sym c.field_at.ensures ∙ c.in-Bad.is),

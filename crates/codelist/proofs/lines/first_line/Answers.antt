@@ -6,7 +6,7 @@ use Rattle.codelist.proofs.lines.first_line.Goals as goal
 
 pub returns-in-Good : goal.returns-in-Good
 unfolding first_line
-returns-in-Good c = 
+returns-in-Good c =
     let s = c.args.s.now in
     c.first_fields_at.ensures ∙ simp (sym c.literal_at.ensures ∙ ap (of_literal s) c.in-Good.is)
 

@@ -24,6 +24,6 @@ word_or-requires c = search rules
 
 pub returns : goal.returns
 unfolding keyword
-returns c = 
+returns c =
     c.word_or.ensures
     ∙ simp (c.word_or-pow.ensures, c.word_or-mulc.ensures, c.word_or-addc.ensures, c.word_or-mul.ensures, c.word_or-add.ensures)

@@ -1,5 +1,5 @@
 -- `lines::literal_at` meets its contract: what is left to compare from the state of the loop is what was to be compared at its start.
-use Prim.Native.Nat.{ℕ, ◌<◌, ◌-◌}
+use Prim.Native.Nat.{ℕ, ◌<◌}
 use mathlib.Core.Path.{refl, sym, subst, ◌∙◌}
 use native.Mathlib.Omega.{arith}
 use borrow.Author.Rules.{rules}
@@ -19,14 +19,14 @@ pub wide-requires : goal.wide-requires
 wide-requires c = search rules
 
 pub returns-then-byte_at-wide : goal.returns-then-byte_at-wide
-returns-then-byte_at-wide c = 
+returns-then-byte_at-wide c =
     let a = c.args in
     literal-stop a.s.now a.w.now c.loop-i.at c.loop-i.i _ _ c.loop-i-test.true
     c.byte_at.ensures c.wide.ensures.value c.if-byte_at-wide.true
     ∙ c.loop-i.invariant.0
 
 pub overflow_add-at : goal.overflow_add-at
-overflow_add-at c = 
+overflow_add-at c =
     omega (
       arith,
       inside c.args.s.now c.loop-i.at
@@ -40,7 +40,7 @@ pub loop-i-smaller : goal.loop-i-smaller
 loop-i-smaller c = search rules
 
 pub loop-i-preserved : goal.loop-i-preserved
-loop-i-preserved c = 
+loop-i-preserved c =
     let a = c.args in (
       literal-more a.s.now a.w.now c.loop-i.at c.loop-i.i _ _ c.loop-i-test.true
           c.byte_at.ensures c.wide.ensures.value c.if-byte_at-wide.false

@@ -25,12 +25,12 @@ returns-in-Good c = search rules
 
 pub returns-in-Good-literal_at : goal.returns-in-Good-literal_at
 unfolding named
-returns-in-Good-literal_at c = 
+returns-in-Good-literal_at c =
     let s = c.args.s.now in
     simp (c.in-Bad.is, sym c.literal_at.ensures ∙ ap (of_literal s) c.in-Good-literal_at.is)
 
 pub returns-in-Bad-literal_at : goal.returns-in-Bad-literal_at
 unfolding named
-returns-in-Bad-literal_at c = 
+returns-in-Bad-literal_at c =
     let s = c.args.s.now in
     simp (c.in-Bad.is, sym c.literal_at.ensures ∙ ap (of_literal s) c.in-Bad-literal_at.is)

@@ -19,7 +19,7 @@ exponent_fits-requires c = search rules
 
 pub returns-then-not-exponent_fits : goal.returns-then-not-exponent_fits
 unfolding checked_of
-returns-then-not-exponent_fits c = 
+returns-then-not-exponent_fits c =
     simp (
       sym c.refers_back.ensures ∙ c.if-not-refers_back.false,
       sym c.exponent_fits.ensures
@@ -31,7 +31,7 @@ constant_fits-requires c = search rules
 
 pub returns-then-not-constant_fits : goal.returns-then-not-constant_fits
 unfolding checked_of
-returns-then-not-constant_fits c = 
+returns-then-not-constant_fits c =
     simp (
       sym c.refers_back.ensures ∙ c.if-not-refers_back.false,
       sym c.exponent_fits.ensures
@@ -44,7 +44,7 @@ multiplier_fits-requires c = search rules
 
 pub returns-then-not-multiplier_fits : goal.returns-then-not-multiplier_fits
 unfolding checked_of
-returns-then-not-multiplier_fits c = 
+returns-then-not-multiplier_fits c =
     simp (
       sym c.refers_back.ensures ∙ c.if-not-refers_back.false,
       sym c.exponent_fits.ensures
@@ -54,7 +54,7 @@ returns-then-not-multiplier_fits c =
     )
 
 pub op_of-requires : goal.op_of-requires
-op_of-requires c = 
+op_of-requires c =
     fits c.args.earlier (text_line c.args.line) c.requires
     (sym c.refers_back.ensures ∙ c.if-not-refers_back.false)
     (sym c.exponent_fits.ensures ∙ c.if-not-exponent_fits.false)
@@ -62,7 +62,7 @@ op_of-requires c =
 
 pub returns : goal.returns
 unfolding checked_of
-returns c = 
+returns c =
     simp (
       sym c.refers_back.ensures ∙ c.if-not-refers_back.false,
       sym c.exponent_fits.ensures

@@ -43,7 +43,7 @@ pub returns-in-Mul : goal.returns-in-Mul
 returns-in-Mul c = simp (c.in-Mul.is, c.small-i.ensures, c.small-in-Mul.ensures)
 
 pub returns-in-AddC : goal.returns-in-AddC
-returns-in-AddC c = 
+returns-in-AddC c =
     let w = c.in-AddC.is in
     let i = c.small-i in
     ap (AddC i.result) (back _ c.value.type_inv ∙ c.value.ensures
@@ -51,7 +51,7 @@ returns-in-AddC c =
     ∙ simp (w, i.ensures)
 
 pub returns-in-MulC : goal.returns-in-MulC
-returns-in-MulC c = 
+returns-in-MulC c =
     let w = c.in-MulC.is in
     let i = c.small-i in
     ap (MulC i.result) (back _ c.value-in-MulC.type_inv ∙ c.value-in-MulC.ensures

@@ -1,5 +1,4 @@
 -- `loading::operation_lines` meets its contract: the laws of the loop (`Loop`) at each way out and each turn.
-use Prim.Native.Nat.{◌-◌}
 use mathlib.Core.Path.{ap, sym, ◌∙◌}
 use borrow.Author.Rules.{rules}
 use Rattle.codelist.specs.Views.{of_line}
@@ -25,7 +24,7 @@ pub refuse-requires : goal.refuse-requires
 refuse-requires c = search rules
 
 pub returns-then-earlier-ge-MOST_LINES : goal.returns-then-earlier-ge-MOST_LINES
-returns-then-earlier-ge-MOST_LINES c = 
+returns-then-earlier-ge-MOST_LINES c =
     let a = c.args in
     let s = a.s.now in
     let e = sym c.line_at.ensures ∙ ap (of_line s) c.in-Good.is in
@@ -51,7 +50,7 @@ pub loop-at-smaller : goal.loop-at-smaller
 loop-at-smaller c = search rules
 
 pub loop-at-preserved : goal.loop-at-preserved
-loop-at-preserved c = 
+loop-at-preserved c =
     let a = c.args in
     let s = a.s.now in
     let e = sym c.line_at.ensures ∙ ap (of_line s) c.in-Good.is in
@@ -65,7 +64,7 @@ pub refuse-requires-in-Fault : goal.refuse-requires-in-Fault
 refuse-requires-in-Fault c = search rules
 
 pub returns-in-Fault : goal.returns-in-Fault
-returns-in-Fault c = 
+returns-in-Fault c =
     let a = c.args in
     let s = a.s.now in
     let e = sym c.line_at.ensures ∙ ap (of_line s) c.in-Good.is in
@@ -81,7 +80,7 @@ pub refuse-requires-in-Bad : goal.refuse-requires-in-Bad
 refuse-requires-in-Bad c = search rules
 
 pub returns-in-Bad : goal.returns-in-Bad
-returns-in-Bad c = 
+returns-in-Bad c =
     let a = c.args in
     let s = a.s.now in
     c.refuse-in-Bad.ensures
@@ -92,7 +91,7 @@ pub refuse-requires-then-count-eq0 : goal.refuse-requires-then-count-eq0
 refuse-requires-then-count-eq0 c = search rules
 
 pub returns-then-count-eq0 : goal.returns-then-count-eq0
-returns-then-count-eq0 c = 
+returns-then-count-eq0 c =
     let a = c.args in
     c.refuse-then-count-eq0.ensures
     ∙ leave_none a.s.now a.from a.year a.n c.loop-at.ops c.loop-at.count c.loop-at.at c.loop-at.invariant
@@ -105,7 +104,7 @@ pub overflow_cast-result-2 : goal.overflow_cast-result-2
 overflow_cast-result-2 c = search rules
 
 pub returns : goal.returns
-returns c = 
+returns c =
     let a = c.args in
     leave-done a.s.now a.from a.year a.n c.loop-at.ops c.loop-at.count c.loop-at.at c.loop-at.invariant c.loop-at-test.false
     c.if-count-eq0.false

@@ -21,10 +21,6 @@ returns-in-2014 c = simp (c.in-Written.is, c.if-w.false, c.in-2014.is)
 
 pub returns-in_default : goal.returns-in_default
 unfolding year_of
-returns-in_default c = 
-    simp (
-      c.in-Written.is,
-      c.if-w.false,
-      ne_eqb _ _ c.in-2016.rest.0.1,
-      ne_eqb _ _ c.in-2016.rest.1,
-    )
+returns-in_default c =
+    let r = c.in_default.in_default-own.rest in
+    simp (c.in-Written.is, c.if-w.false, ne_eqb _ _ r.0.1, ne_eqb _ _ r.1)

@@ -13,7 +13,7 @@ pub digit_at-d-requires : goal.digit_at-d-requires
 digit_at-d-requires c = search rules
 
 pub returns-then-d-ge10 : goal.returns-then-d-ge10
-returns-then-d-ge10 c = 
+returns-then-d-ge10 c =
     sym (digits-stop c.args.s.now c.loop-k.at _ _ _ _ c.digit_at-d.ensures c.if-d-ge10.true)
     ∙ c.loop-k.invariant.0
 
@@ -24,7 +24,7 @@ pub overflow_add-magnitude : goal.overflow_add-magnitude
 overflow_add-magnitude c = omega (arith, roomy-small _ _ c.loop-k.invariant.1)
 
 pub overflow_add-at : goal.overflow_add-at
-overflow_add-at c = 
+overflow_add-at c =
     omega (
       arith,
       digit-inside c.args.s.now c.loop-k.at c.digit_at-d.result
@@ -38,7 +38,7 @@ pub loop-k-smaller : goal.loop-k-smaller
 loop-k-smaller c = search rules
 
 pub loop-k-preserved : goal.loop-k-preserved
-loop-k-preserved c = 
+loop-k-preserved c =
     let t = c.loop-k-test.true in (
       digits_more c.args.s.now c.loop-k.at _ _ _ _ c.digit_at-d.ensures t c.if-d-ge10.false ∙ c.loop-k.invariant.0,
       roomy-more _ _ _ t c.if-d-ge10.false c.loop-k.invariant.1,

@@ -12,7 +12,7 @@ pub byte_at-b-requires : goal.byte_at-b-requires
 byte_at-b-requires c = search rules
 
 pub overflow_add-at : goal.overflow_add-at
-overflow_add-at c = 
+overflow_add-at c =
     let a = c.args in
     omega (arith, byte_inside a.s.now a.at c.byte_at-b.result 45 c.byte_at-b.ensures c.if-b-eq-MINUS.true (lit< tt))
 
@@ -24,7 +24,7 @@ unfolding numeral
 returns-then-b-eq-MINUS c = c.positive_at.ensures ∙ simp (← c.byte_at-b.ensures, eq-eqb _ _ c.if-b-eq-MINUS.true, rest-drop)
 
 pub overflow_add-result : goal.overflow_add-result
-overflow_add-result c = 
+overflow_add-result c =
     let a = c.args in
     omega (arith, byte_inside a.s.now a.at c.byte_at-b.result 48 c.byte_at-b.ensures c.if-b-eq-ZERO.true (lit< tt))
 
@@ -37,6 +37,6 @@ positive_at-requires-2 c = search rules
 
 pub returns : goal.returns
 unfolding numeral
-returns c = 
+returns c =
     c.positive_at-2.ensures
     ∙ simp (← c.byte_at-b.ensures, ne_eqb _ _ c.if-b-eq-MINUS.false, ne_eqb _ _ c.if-b-eq-ZERO.false)

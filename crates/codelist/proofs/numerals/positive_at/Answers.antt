@@ -15,7 +15,7 @@ unfolding positive
 returns-then-d-eq0 c = simp (← c.digit_at-d.ensures, eq-eqb _ _ c.if-d-eq0.true)
 
 pub overflow_add-at : goal.overflow_add-at
-overflow_add-at c = 
+overflow_add-at c =
     let a = c.args in
     omega (arith, digit-inside a.s.now a.at c.digit_at-d.result c.digit_at-d.ensures c.if-d-lt10.true)
 
@@ -24,7 +24,7 @@ digits_at-requires c = search rules
 
 pub returns-then-d-lt10 : goal.returns-then-d-lt10
 unfolding positive
-returns-then-d-lt10 c = 
+returns-then-d-lt10 c =
     c.digits_at.ensures
     ∙ simp (← c.digit_at-d.ensures, ne_eqb _ _ c.if-d-eq0.false, lt-ltb _ _ c.if-d-lt10.true, rest-drop)
 
