@@ -2,11 +2,13 @@
 // bytes have, so that a longer text shows.
 #![tactic(auto)]
 
-fn main() {
+use std::io;
+
+fn main(rt: HostRuntime) -> io::Result<()> {
     let mut input = [0u8; 2048];
-    let n = io::read_full(0, &mut input);
+    let n = streams::read_full(&mut rt.stdin(), &mut input)?;
     let o = formulas::answer(&input[..n]);
     let bytes = o.bytes;
     let len = o.len;
-    io::write_all(1, &bytes[..len]);
+    rt.write_all(&bytes[..len])
 }

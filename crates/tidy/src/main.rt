@@ -2,11 +2,13 @@
 // a longer sheet shows.
 #![tactic(auto)]
 
-fn main() {
+use std::io;
+
+fn main(rt: HostRuntime) -> io::Result<()> {
     let mut sheet = [0u8; 4097];
-    let n = io::read_full(0, &mut sheet);
+    let n = streams::read_full(&mut rt.stdin(), &mut sheet)?;
     let o = liveness::answer(&sheet[..n]);
     let bytes = o.bytes;
     let len = o.len;
-    io::write_all(1, &bytes[..len]);
+    rt.write_all(&bytes[..len])
 }

@@ -2,30 +2,22 @@
 // outcome, `written` and how many bytes, or `refused` with number and place, and then the buffer as the call left it.
 #![tactic(auto)]
 
-use libc::{STDIN_FILENO, STDOUT_FILENO};
 use liveness::Outcome;
+use std::env::Env;
+use std::io;
 
-fn say(word: &[u8], number: u64) {
-    io::write_all(STDOUT_FILENO, word);
-    io::print_decimal(STDOUT_FILENO, number);
-}
-
-fn show(sheet: &[u8], buffer: &mut [u8]) {
+fn show(out: &impl Print, sheet: &[u8], buffer: &mut [u8]) -> io::Result<()> {
     match liveness::tidy(sheet, buffer) {
-        Outcome::Written(len) => say(b"written\t", len as u64),
-        Outcome::Refused(why) => {
-            say(b"refused\t", why.number() as u64);
-            say(b"\t", why.place());
-        }
+        Outcome::Written(len) => println!(out; "written\t{len}")?,
+        Outcome::Refused(why) => println!(out; "refused\t{}\t{}", why.number(), why.place())?,
     }
-    io::write_all(STDOUT_FILENO, b"\n");
-    io::write_all(STDOUT_FILENO, buffer);
+    out.write_all(buffer)
 }
 
-fn main() {
+fn main(rt: HostRuntime) -> io::Result<()> {
     let mut buffer = [0u8; 2048];
-    let k = os::arg(1, &mut buffer);
+    let k = rt.arg(1, &mut buffer).unwrap_or(0);
     let mut sheet = [0u8; 4097];
-    let n = io::read_full(STDIN_FILENO, &mut sheet);
-    show(&sheet[..n], &mut buffer[..k]);
+    let n = streams::read_full(&mut rt.stdin(), &mut sheet)?;
+    show(&rt, &sheet[..n], &mut buffer[..k])
 }
