@@ -11,8 +11,7 @@ use mir.Syntax.{w64}
 use mir.Val.{SFits, to_z, of_z}
 use borrow.Author.Rules.{rules}
 use Rattle.writer.proofs.Signs.{not-below, not-above}
-use Rattle.writer.proofs.magnitude.Statement.{statement}
-use Rattle.writer.proofs.magnitude.Tie as tie
+use Rattle.writer.proofs.magnitude.Goals as goal
 
 flip : (n : ℕ) → negsuc 0 -ℤ negsuc n ≡ pos n
 flip n = +ℤ_comm (negsuc 0) (pos (suc n)) ∙ -ℤ_one (pos (suc n))
@@ -40,38 +39,35 @@ module _ (x : ℤ) (f : SFits w64 x) (h : lt_z x (pos 0) ≡ true) where
   back : to_z w64 (of_z w64 (negsuc 0 -ℤ to_z w64 (of_z w64 x))) ≡ negsuc 0 -ℤ x
   back = rw (to_z-of_z f) (to_z-of_z (flip-fits x h f))
 
-sub-result : tie.Need-overflow-sub-result
-sub-result c =
-    let x = c.before.args.x in
+pub overflow_sub-result : goal.overflow_sub-result
+overflow_sub-result c =
+    let x = c.args.x in
     let f : SFits w64 x = search rules in
-    fits x f (rw (to_z-of_z f) at c.if1.true)
+    fits x f (rw (to_z-of_z f) at c.if-x-lt0.true)
 
-cast-result : tie.Need-overflow-cast-result
-cast-result c =
-    let x = c.before.args.x in
+pub overflow_cast-result : goal.overflow_cast-result
+overflow_cast-result c =
+    let x = c.args.x in
     let f : SFits w64 x = search rules in
-    let h = rw (to_z-of_z f) at c.if1.true in
+    let h = rw (to_z-of_z f) at c.if-x-lt0.true in
     rw (back x f h) (flip-nonneg x h, Fits-nat_abs tt (flip-fits x h f))
 
-add-result : tie.Need-overflow-add-result
-add-result c =
-    let x = c.before.args.x in
+pub overflow_add-result : goal.overflow_add-result
+overflow_add-result c =
+    let x = c.args.x in
     let f : SFits w64 x = search rules in
-    let h = rw (to_z-of_z f) at c.if1.true in
+    let h = rw (to_z-of_z f) at c.if-x-lt0.true in
     rw (back x f h, flip-abs x h) (Fits-nat_abs tt f)
 
-cast-result-2 : tie.Need-overflow-cast-result-2
-cast-result-2 c =
-    let x = c.before.args.x in
+pub overflow_cast-result-else-x-lt0 : goal.overflow_cast-result-else-x-lt0
+overflow_cast-result-else-x-lt0 c =
+    let x = c.args.x in
     let f : SFits w64 x = search rules in
-    rw (to_z-of_z f) (nonneg x (rw (to_z-of_z f) at c.if1.false), Fits-nat_abs tt f)
+    rw (to_z-of_z f) (nonneg x (rw (to_z-of_z f) at c.if-x-lt0.false), Fits-nat_abs tt f)
 
-returns : tie.Need-returns
-returns c =
-    let x = c.before.args.x in
+pub returns-then-x-lt0 : goal.returns-then-x-lt0
+returns-then-x-lt0 c =
+    let x = c.args.x in
     let f : SFits w64 x = search rules in
-    let h = rw (to_z-of_z f) at c.if1.true in
+    let h = rw (to_z-of_z f) at c.if-x-lt0.true in
     rw (back x f h) (flip-abs x h)
-
-pub magnitude-spec : {M : Type 1} → statement M
-magnitude-spec = tie.close (tie.spec sub-result cast-result add-result cast-result-2 returns (λ c. search rules))
