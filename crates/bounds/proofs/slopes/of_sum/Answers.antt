@@ -1,0 +1,78 @@
+-- `bounds::slopes::of_sum` meets its contract: the slopes of the factors below a are worked out, and written. Assumes nothing.
+use borrow.Author.Rules.{rules}
+use mathlib.Core.Path.{ap₂, subst, sym, ◌∙◌}
+use mathlib.Core.Logic.{inl, inr}
+use Prim.Native.Nat.{◌<◌}
+use native.Mathlib.Omega.{arith}
+use Rattle.range.specs.Arithmetic.{sum_of}
+use Rattle.range.specs.Laws.{Settled}
+use Rattle.range.proofs.Laws.{laws}
+use Rattle.bounds.specs.Terms.{Told}
+use Rattle.bounds.proofs.Operands.{told-sum}
+use Rattle.bounds.proofs.Filling.{filling-start, filling-index, filling-in, filling-out, filling-end}
+use Rattle.bounds.proofs.Storing.{storing-start, storing-more, storing-read, storing-valid}
+use Rattle.bounds.proofs.slopes.of_sum.Goals as goal
+
+pub loop-rest-init : goal.loop-rest-init
+loop-rest-init c = (filling-start (search rules), storing-start c.requires.k_bound c.sized.ensures c.requires.blank)
+
+pub slope-requires : goal.slope-requires
+slope-requires c =
+    let index : c.loop-rest.a < 8 = filling-index c.loop-rest.invariant.0 c.loop-rest-test.true in
+    record { k_bound = omega (arith, index); a_bound = omega (arith, index) }
+
+pub slope-requires-then-rest-eq1 : goal.slope-requires-then-rest-eq1
+slope-requires-then-rest-eq1 c =
+    let index : c.loop-rest.a < 8 = filling-index c.loop-rest.invariant.0 c.loop-rest-test.true in
+    record { k_bound = omega (arith, index); a_bound = omega (arith, index) }
+
+pub sum-r-requires : goal.sum-r-requires
+sum-r-requires c = record { a_value = search (rules, storing-valid); b_value = search (rules, storing-valid) }
+
+pub offset_bounds-g-a : goal.offset_bounds-g-a
+offset_bounds-g-a c =
+    let index : c.loop-rest.a < 8 = filling-index c.loop-rest.invariant.0 c.loop-rest-test.true in
+    omega (arith, index)
+
+pub bounds-g-a : goal.bounds-g-a
+bounds-g-a c =
+    let index : c.loop-rest.a < 8 = filling-index c.loop-rest.invariant.0 c.loop-rest-test.true in
+    omega (arith, index)
+
+pub put_slope-requires : goal.put_slope-requires
+put_slope-requires c =
+    let index : c.loop-rest.a < 8 = filling-index c.loop-rest.invariant.0 c.loop-rest-test.true in
+    record { k_bound = c.requires.k_bound; a_bound = index; settled = subst Settled (sym c.sum-r.ensures) (laws.closure.sum _ _) }
+
+pub is_range-ok-requires : goal.is_range-ok-requires
+is_range-ok-requires c = subst Told (sym c.sum-r.ensures) (told-sum _ _)
+
+pub overflow_add-a : goal.overflow_add-a
+overflow_add-a c =
+    let index : c.loop-rest.a < 8 = filling-index c.loop-rest.invariant.0 c.loop-rest-test.true in
+    omega (arith, index)
+
+pub loop-rest-preserved : goal.loop-rest-preserved
+loop-rest-preserved c =
+    let index : c.loop-rest.a < 8 = filling-index c.loop-rest.invariant.0 c.loop-rest-test.true in
+    let start = c.before.before.before.before.before in
+    let args = start.args in
+    let pre = start.requires.1.1 in
+    let inv = c.loop-rest.invariant in
+    let a = c.loop-rest.a in
+    let h = index in
+    elim c.if-rest-eq1.branch [
+      | inl w ↦
+          let x = storing-read inv.1 args.i a pre.0 w.2.ensures in
+          let y = storing-read inv.1 args.j a pre.1.0 w.4.ensures in
+          rw (w.9, w.10, w.11, w.8.ensures, w.7.ensures)
+          (filling-in inv.0 h w.0.taken _ (w.5.ensures ∙ ap₂ sum_of x y), storing-more inv.1 h _)
+      | inr w ↦ rw (w.1, w.2, w.3) (filling-out inv.0 h w.0.left, inv.1)
+    ]
+
+pub returns : goal.returns
+returns c =
+    let inv = c.loop-rest.invariant in record { value = filling-end inv.0 c.loop-rest-test.false; stored = inv.1.stored }
+
+pub loop-rest-smaller : goal.loop-rest-smaller
+loop-rest-smaller c = omega arith
