@@ -5,12 +5,11 @@ use mathlib.Core.Bool.{Bool, true, false, ◌||◌, cond, false≢true}
 use mathlib.Core.List.{List}
 use mathlib.Core.Logic.{◌⊎◌, inl, inr}
 use Prim.Native.Nat.{ℕ, zero, suc, ◌/◌, ◌%◌, ◌^◌, ◌≤◌, ◌<◌, max}
-use native.Mathlib.Nat as N
 use native.Mathlib.Omega.{arith}
 use borrow.Author.Tests.{ltb-true, ltb-false}
 use lib.Bits.{bit_or, or_step, or_shr}
 use lib.Dec.{eqb, ltb}
-use lib.ListN.{length, set, get_or-eq_default}
+use lib.ListN.{length, get_or-eq_default}
 use lib.Seq.{ext_get_or}
 use Rattle.range.specs.declared.Range.{Range}
 use Rattle.range.specs.Limit.{zero_range}

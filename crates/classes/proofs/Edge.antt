@@ -6,7 +6,6 @@ use mathlib.Core.Path.{◌≡◌, refl, ap}
 use native.Mathlib.Omega.{arith}
 use Rattle.engine.specs.declared.Engine.{Engine}
 use Rattle.margin.specs.declared.Edge as margin
-use Rattle.margin.specs.declared.Refusal as margin-refusal
 use Rattle.margin.specs.Edge.{edge_numbers, edge_for}
 use Rattle.margin.proofs.Exchange.{exchange-edge}
 use Rattle.margin.proofs.Numbered.{numbered}

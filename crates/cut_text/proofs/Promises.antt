@@ -1,13 +1,13 @@
 -- What is promised of the program `cut`: `cut-prints`. Assumes nothing.
-use Prim.Native.Nat.{ℕ, ◌≤◌, ◌<◌}
+use Prim.Native.Nat.{ℕ, ◌≤◌}
 use mathlib.Core.Bool.{true, false}
-use mathlib.Core.List.{List, [], ◌∷◌, ◌++◌}
+use mathlib.Core.List.{List, [], ◌++◌}
 use mathlib.Core.Option.{Option, none, some}
 use mathlib.Core.Path.{◌≡◌, refl, sym, ap, ◌∙◌}
 use native.Mathlib.Decide.{dec_le}
 use native.Mathlib.Omega.{arith}
-use lib.IntN.{ℤ, pos, negsuc}
-use lib.ListN.{length, take, drop, length-append}
+use lib.IntN.{ℤ, pos}
+use lib.ListN.{length, take}
 use lib.Seq.{take_all, length-take-le}
 use borrow.Author.Tests.{le-leb}
 use Rattle.codelist.specs.Codelist.{Ratable}
@@ -32,14 +32,14 @@ use Rattle.text.specs.Faithful.{Same}
 use Rattle.text.proofs.Faithful.{limits-inv}
 use Rattle.bisection.specs.declared.Bisected.{Bisected}
 use Rattle.bisection.specs.declared.Outcome.{Outcome}
-use Rattle.bisection.specs.declared.Outcome.TheVariants.{Accepted, Refused}
+use Rattle.bisection.specs.declared.Outcome.TheVariants.{Accepted}
 use Rattle.bisection.specs.declared.Refusal as bisection
-use Rattle.bisection.specs.declared.Refusal.TheVariants.{Depth, Rate}
+use Rattle.bisection.specs.declared.Refusal.TheVariants.{Depth}
 use Rattle.bisection.specs.Cut.{is_depth, answer_of, cut_of}
 use Rattle.bisection.specs.Promises.{IsDepth}
 use Rattle.bisection.proofs.Tested.{depth-iff}
 use Rattle.bisection.proofs.CutSound.{cut-sound, cut-valid, uncut}
-use Rattle.cut_text.specs.Input.{depth→, depth_line, depth_in, first_length, after_first}
+use Rattle.cut_text.specs.Input.{depth_line, depth_in, first_length, after_first}
 use Rattle.cut_text.specs.Output.{refusal_text, unless_refused, bisected_text}
 use Rattle.cut_text.specs.Answer as cut
 use Rattle.cut_text.specs.Answer.{unreadable, cut_text, rest_text}

@@ -1,7 +1,6 @@
 -- What is promised of the program `cut`: proved in proofs/Promises.antt. That `answer` gives `answer_of` is its contract's to say, and what the limits are
 -- is `CutSound`'s.
 use Rattle.std.specs.Prelude.{◌≡◌, List, ◌∷◌, [], ◌++◌, ℕ, ◌≤◌, ℤ, length, take}
-use Rattle.std.proofs.Math.Option.{none, some}
 use Rattle.rules.specs.declared.Limits.{Limits}
 use Rattle.engine.specs.declared.Engine.{Engine}
 use Rattle.engine.specs.declared.Outcome.{Outcome}
@@ -9,7 +8,7 @@ use Rattle.engine.specs.declared.Outcome.TheVariants.{Accepted, Refused}
 use Rattle.engine.specs.declared.Refusal.{Refusal}
 use Rattle.engine.specs.Engine.{empty_engine, loaded_of}
 use Rattle.writer.specs.Texts.{refused_text}
-use Rattle.text.specs.Input.{box, sheet_of, after_line, box_lines}
+use Rattle.text.specs.Input.{box, sheet_of}
 use Rattle.text.specs.Output as text
 use Rattle.text.specs.Answer as rate
 use Rattle.text.specs.Answer.{written}

@@ -7,13 +7,10 @@ use Prim.Native.Nat.{ℕ, zero, suc, ◌*◌}
 use lib.Dec.{lit≤, eqb}
 use lib.IntN.{ℤ}
 use lib.ListN.{length}
-use Rattle.codelist.specs.declared.Refusal as codelist
 use Rattle.codelist.specs.declared.Codelist.{Codelist}
 use Rattle.codelist.specs.Codelist.{WellFormed, ratable}
 use Rattle.codelist.specs.Load as Load
-use Rattle.codelist.specs.Refused.{RefusedFor}
 use Rattle.codelist.proofs.Ratable.{well-formed-ratable}
-use Rattle.codelist.proofs.Refused.{refused-exactly}
 use Rattle.rules.specs.declared.Refusal as rules
 use Rattle.rules.specs.declared.Limits.{Limits}
 use Rattle.rules.specs.declared.Rating.{Rating}
@@ -32,7 +29,7 @@ use Rattle.engine.specs.declared.Engine.{Engine}
 use Rattle.engine.specs.declared.Refusal as refusal
 use Rattle.engine.specs.declared.Refusal.{Refusal}
 use Rattle.engine.specs.declared.Outcome.TheVariants.{Accepted, Refused}
-use Rattle.engine.specs.Engine.{number_of, place_of, empty_engine, loaded_of, outcome_of, as_rating, rated_of}
+use Rattle.engine.specs.Engine.{empty_engine, loaded_of, outcome_of, as_rating, rated_of}
 use Rattle.engine.specs.Refusals.{RefusedWith, RateTable, count, range, no-codelist, divisor, overflow}
 use Rattle.engine.specs.Demands.{Demands}
 use Rattle.engine.proofs.Loads.{not-both, is-in, decided, kept, load-number, written, back, listed, unlisted, from-load-table, to-load-table}

@@ -19,7 +19,6 @@ use Rattle.codelist.proofs.Refused.{refused-exactly}
 use Rattle.engine.specs.declared.Engine.{Engine}
 use Rattle.engine.specs.declared.Refusal as refusal
 use Rattle.engine.specs.declared.Refusal.{Refusal}
-use Rattle.engine.specs.declared.Outcome.{Outcome}
 use Rattle.engine.specs.declared.Outcome.TheVariants.{Accepted, Refused}
 use Rattle.engine.specs.Engine.{number_of, loaded, loaded_of}
 use Rattle.engine.specs.Refusals.{RefusedWith, LoadTable, bytes, form, factors, year, lines, no-operation, reference, exponent, constant, multiplier}

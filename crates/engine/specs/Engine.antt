@@ -7,7 +7,6 @@ use Rattle.codelist.specs.declared.Loaded.{Loaded}
 use Rattle.codelist.specs.Load as Load
 use Rattle.rules.specs.declared.Outcome as rating
 use Rattle.rules.specs.declared.Rating as rules
-use Rattle.rules.specs.declared.Limits.{Limits}
 use Rattle.rules.specs.Rate as Rate
 use Rattle.formulas.specs.Load as Formula
 use Rattle.formulas.specs.Load.{Given, given, refused, formula_of}

@@ -16,7 +16,7 @@ use Rattle.range.specs.Sums.{at}
 use Rattle.range.proofs.Fitting.{InLimit, in-limit}
 use Rattle.range.proofs.Valid.{true-T, and_left, and_right, ends-of}
 use Rattle.rules.specs.declared.Refusal.TheVariants.{RangeCount, BadRange}
-use Rattle.rules.specs.Rate.{pairs, rated}
+use Rattle.rules.specs.Rate.{pairs}
 use Rattle.rules.proofs.Accepted.{accepted}
 use Rattle.rules.proofs.FirstBad.{all-good}
 use Rattle.rules.proofs.Passing.{good-iff}

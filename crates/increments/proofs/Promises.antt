@@ -16,7 +16,7 @@ use Rattle.engine.proofs.Loads.{not-both}
 use Rattle.engine.proofs.Demands.{demands}
 use Rattle.increments.specs.declared.Difference.{Difference}
 use Rattle.increments.specs.Call.{difference_of, refused_with, sisters_of}
-use Rattle.increments.specs.Promises.{one, other, Bounded, Exact, SistersCall}
+use Rattle.increments.specs.Promises.{Bounded, Exact, SistersCall}
 use Rattle.increments.proofs.Cases.{Case, unrated, miscounted, one_outside, both-inside, case}
 use Rattle.increments.proofs.Refusals.{decided, numbers, zero, inside, refused-listed, one-refusal}
 use Rattle.increments.proofs.Rounded.{least-down, greatest-up}

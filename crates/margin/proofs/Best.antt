@@ -2,7 +2,6 @@
 -- first of the candidates: `best-is`. It says nothing of rating.
 use mathlib.Core.Bool.{Bool, true, false, ◌&&◌, cond}
 use mathlib.Core.Logic.{◌⊎◌, inl, inr}
-use mathlib.Core.Option.{none, some}
 use mathlib.Core.Path.{◌≡◌, refl, sym, ap, ◌∙◌}
 use Prim.Native.Nat.{ℕ, suc, ◌+◌, ◌-◌, ◌/◌, ◌≤◌, ◌<◌}
 use native.Mathlib.Decide.{ℕ_discrete, dec_le}
@@ -10,7 +9,6 @@ use native.Mathlib.Nat as N
 use native.Mathlib.Omega.{arith}
 use lib.Dec.{eqb, leb, ltb, lit<}
 use borrow.Author.Tests.{ne_eqb, leb-false, ltb-false}
-use Rattle.margin.specs.declared.Edge.{Edge}
 use Rattle.margin.specs.declared.Edge.TheVariants.{Widen, Nowhere}
 use Rattle.margin.specs.Edge.{most_units, candidates, first_that, found}
 use Rattle.margin.specs.Promises.{Before}

@@ -1,13 +1,13 @@
 -- The first of the candidates that passes a test: the row of one widening, then row after row: `scan`. Assumes nothing of the test.
-use mathlib.Core.Bool.{Bool, true, false, cond}
-use mathlib.Core.List.{List, [], ◌∷◌, ◌++◌}
-use mathlib.Core.Logic.{◌⊎◌, inl, inr}
+use mathlib.Core.Bool.{Bool, true, false}
+use mathlib.Core.List.{List, ◌++◌}
+use mathlib.Core.Logic.{inl, inr}
 use mathlib.Core.Option.{none, some}
 use mathlib.Core.Path.{◌≡◌, refl, ◌∙◌}
 use Prim.Native.Nat.{ℕ, zero, suc, ◌+◌, ◌≤◌, ◌<◌}
 use native.Mathlib.Decide.{ℕ_discrete}
 use native.Mathlib.Omega.{arith}
-use Rattle.margin.specs.Edge.{row, rows, most_units, candidates, first_that}
+use Rattle.margin.specs.Edge.{row, rows, most_units, first_that}
 use Rattle.margin.specs.Promises.{Before}
 
 module _ (P : ℕ → ℕ → Bool) where

@@ -16,7 +16,6 @@ use Rattle.exact.proofs.Rat as Q
 use Rattle.exact.proofs.Units.{units_mono}
 use Rattle.range.specs.Limit.{most}
 use Rattle.range.proofs.Valid.{true-T, false-T}
-use Rattle.rules.specs.declared.Refusal as rules
 use Rattle.rules.specs.declared.Limits.{Limits}
 use Rattle.rules.specs.declared.Rating.{Rating}
 use Rattle.rules.specs.Rate.{rated, refused, rate_of}
@@ -33,9 +32,8 @@ use Rattle.engine.specs.Engine.{outcome_of, rated_of}
 use Rattle.engine.proofs.Demands.{accepted-rating}
 use Rattle.margin.specs.declared.Refusal.{Refusal}
 use Rattle.margin.specs.declared.Refusal.TheVariants.{Rate, Ceiling}
-use Rattle.margin.specs.declared.Edge.{Edge}
 use Rattle.margin.specs.declared.Edge.TheVariants.{Widen, Nowhere, Refused}
-use Rattle.margin.specs.Edge.{wider, Moves, moves, most_units, edge_of, edge_for}
+use Rattle.margin.specs.Edge.{wider, Moves, most_units, edge_of, edge_for}
 use Rattle.margin.specs.Promises.{BadCeiling, Asked, Factor, Smallest, NoneMoves, EdgeRefusedFor, Free, NearestEdge}
 use Rattle.margin.specs.Search.{Rateable}
 use Rattle.margin.proofs.Widening.{wider-none, range-ends, own-high}

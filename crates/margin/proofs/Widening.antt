@@ -1,5 +1,4 @@
 -- A range widened at its high end: what it is among the ranges, and that accepted ranges can be widened. Assumes nothing.
-use mathlib.Core.Bool.{Bool, true, false}
 use mathlib.Core.List.{List, [], ◌∷◌}
 use mathlib.Core.Path.{◌≡◌, refl, sym, ap, ap₂, ◌∙◌}
 use Prim.Native.Nat.{ℕ, zero, suc, ◌+◌, ◌*◌, ◌-◌, ◌≤◌, ◌<◌}
@@ -16,15 +15,14 @@ use Rattle.algebra.proofs.Int.{ints, add-dif, add-abs, ≤ℤ-trans}
 use Rattle.codelist.specs.declared.Codelist.{Codelist}
 use Rattle.exact.proofs.Machine.{fits-abs}
 use Rattle.range.specs.declared.Range.{Range}
-use Rattle.range.specs.Limit.{from_to, zero_range, most, least}
+use Rattle.range.specs.Limit.{from_to, zero_range}
 use Rattle.range.specs.Sums.{at}
 use Rattle.range.proofs.Fitting.{in-limit}
 use Rattle.range.proofs.Valid.{true-T, Ends, ends-of}
-use Rattle.rules.specs.declared.Limits.{Limits}
-use Rattle.rules.specs.Rate.{rated, pairs, rate_of}
+use Rattle.rules.specs.Rate.{pairs}
 use Rattle.rules.specs.Isotone.{InsideRanges}
 use Rattle.rules.specs.Refused.{range_of}
-use Rattle.rules.proofs.Accepted.{accepted, pairs-length}
+use Rattle.rules.proofs.Accepted.{accepted}
 use Rattle.rules.proofs.FirstBad.{all-good}
 use Rattle.rules.proofs.Passing.{good-iff}
 use Rattle.bounds.proofs.Ranges.{pairs-at}

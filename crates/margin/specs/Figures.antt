@@ -1,5 +1,5 @@
 -- 02, request 14: figures worked out from the definitions. Each is a codelist with the ranges of its factors, a ceiling, and the answer.
-use Rattle.std.specs.Prelude.{◌≡◌, refl, List, [], ◌∷◌, ◌++◌, map, ℕ, ℤ, pos}
+use Rattle.std.specs.Prelude.{◌≡◌, refl, List, [], ◌∷◌, map, ℕ, ℤ, pos}
 use Rattle.std.specs.Int.Count.{ones, ones_in, count_trailing_zeros}
 use Rattle.algebra.specs.Sum.{sum_below}
 use Rattle.exact.specs.Div.{floor_div, ceil_div, floor_quot, ceil_quot}

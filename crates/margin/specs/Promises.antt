@@ -1,14 +1,12 @@
 -- What is promised of the nearest edge: proved in proofs/NearestEdge.antt.
-use Rattle.std.specs.Prelude.{true, ◌↔◌, ◌⊎◌, ◌≡◌, ℕ, ◌-◌, ◌≤◌, ◌<◌, ℤ, pos, ◌+ℤ◌, ◌≤ℤ◌, ◌<ℤ◌}
+use Rattle.std.specs.Prelude.{true, ◌↔◌, ◌⊎◌, ◌≡◌, ℕ, ◌≤◌, ◌<◌, ℤ, pos, ◌+ℤ◌, ◌<ℤ◌}
 use mathlib.Core.List.{List, Memᴰ}
 use Rattle.std.proofs.Math.Option.{some}
 use Rattle.codelist.specs.declared.Codelist.{Codelist}
 use Rattle.exact.specs.Rat.{◌≤ℚ◌}
 use Rattle.exact.specs.Units.{units}
 use Rattle.range.specs.Limit.{most, least}
-use Rattle.range.specs.Sums.{at}
 use Rattle.rules.specs.declared.Refusal as rules
-use Rattle.rules.specs.Rate.{pairs}
 use Rattle.rules.specs.Exact.{Point, Jet, premium_of}
 use Rattle.rules.specs.Promises.{Inside}
 use Rattle.rules.specs.Refused.{RefusedFor, range_of}
@@ -19,7 +17,7 @@ use Rattle.margin.specs.declared.Refusal.{Refusal}
 use Rattle.margin.specs.declared.Refusal.TheVariants.{Rate, Ceiling}
 use Rattle.margin.specs.declared.Edge.{Edge}
 use Rattle.margin.specs.declared.Edge.TheVariants.{Widen, Nowhere, Refused}
-use Rattle.margin.specs.Edge.{wider, Moves, moves, most_units, number_of, place_of, edge_numbers, edge_for, Fields, fields_of}
+use Rattle.margin.specs.Edge.{wider, Moves, moves, most_units, number_of, place_of, edge_numbers, edge_for, fields_of}
 
 -- ════ what is asked ════
 

@@ -1,5 +1,5 @@
 -- The lowest factor with an end that is no whole number; and that no double past the last factor is looked at.
-use Rattle.std.proofs.Common.{◌≡◌, ℕ, zero, suc, ◌+◌, ◌-◌, ◌*◌, ◌<◌, ◌≤◌, ◌⊎◌, List, [], ◌∷◌, length, take, drop, ℤ, sym, refl, ap, ◌∙◌, subst, inl, inr, arith, take-take}
+use Rattle.std.proofs.Common.{◌≡◌, ℕ, zero, suc, ◌+◌, ◌*◌, ◌<◌, ◌≤◌, ◌⊎◌, List, [], ◌∷◌, length, take, drop, ℤ, sym, refl, ap, ◌∙◌, subst, inl, inr, arith, take-take}
 use native.Mathlib.Decide.{ℕ_discrete}
 use lib.Ieee.{binary64, of_bits}
 use Rattle.encoding.specs.Bytes.{number_of}

@@ -1,5 +1,5 @@
 -- A finite double by its parts: the whole part q of its size and what is left of it, r. From 2 ^ 53 on nothing is left.
-use Rattle.std.proofs.Common.{◌≡◌, ℕ, zero, suc, ◌+◌, ◌-◌, ◌*◌, ◌/◌, ◌%◌, ◌^◌, ◌<◌, ◌≤◌, min, Bool, true, false, ◌&&◌, T, eqb, ltb, leb, ◌⊎◌, ℤ, pos, negsuc, neg_ℤ, sym, refl, ap, ◌∙◌, inl, inr, true≢false, zero-lt-suc, mul-pos, div-add-mod', div-le_self, arith, lit<, ltb→lt, eq-eqb, ne_eqb}
+use Rattle.std.proofs.Common.{◌≡◌, ℕ, zero, suc, ◌+◌, ◌*◌, ◌/◌, ◌%◌, ◌^◌, ◌<◌, ◌≤◌, min, Bool, true, false, ◌&&◌, T, eqb, ltb, leb, ◌⊎◌, ℤ, pos, negsuc, neg_ℤ, sym, refl, ap, ◌∙◌, inl, inr, true≢false, zero-lt-suc, mul-pos, div-add-mod', div-le_self, arith, lit<, ltb→lt, eq-eqb, ne_eqb}
 use mathlib.Core.Bool.{false≢true}
 use lib.Dec.{eqb-suc-zero}
 use lib.Ieee.{Float, nan, inf, fin, binary64, low, up, down, fits, eq, level, to_signed}

@@ -1,5 +1,5 @@
 -- The numbers of a result: twenty-four of them, within the limit, or a set of at most eight factors.
-use Rattle.std.proofs.Common.{◌≡◌, ℕ, zero, suc, ◌+◌, ◌^◌, ◌<◌, ◌≤◌, true, ◌&&◌, T, List, [], ◌∷◌, ◌++◌, length, get_or, ℤ, pos, nat_abs, sym, refl, ap, ◌∙◌, subst, arith, lit≤, pow_mono}
+use Rattle.std.proofs.Common.{◌≡◌, ℕ, zero, suc, ◌^◌, ◌<◌, ◌≤◌, true, ◌&&◌, T, List, [], ◌∷◌, ◌++◌, length, get_or, ℤ, pos, nat_abs, sym, refl, ap, ◌∙◌, subst, arith, lit≤, pow_mono}
 use mathlib.Core.Option.{Option}
 use Rattle.codelist.specs.declared.Codelist.{Codelist}
 use Rattle.exact.specs.Units.{limit}
