@@ -16,24 +16,20 @@ use Rattle.bounds.proofs.Working.{refers-inside, refers-valid, settle-asks, work
 use Rattle.bounds.proofs.Signs.{product-negated}
 use Rattle.bounds.proofs.Zeros.{zero-inverse, inverse-over}
 use Rattle.bounds.proofs.rows.inv.Goals as goal
-use Rattle.bounds.proofs.rows.inv.Goals.{After-inverse-v, After-power-q}
-
-inverse-is : (c : After-inverse-v) → c.inverse-v.result ≡ inverse_of (value_at c.args.t.now c.args.i)
-inverse-is c = c.inverse-v.ensures ∙ ap inverse_of c.value.ensures
-
-square-is : (c : After-power-q) → c.power-q.result ≡ pow_of (inverse_of (value_at c.args.t.now c.args.i)) 2
-square-is c = c.power-q.ensures ∙ ap (λ (v : Range). pow_of v 2) (inverse-is c.before)
 
 pub returns-then-not-valid : goal.returns-then-not-valid
 unfolding inv_row
 returns-then-not-valid c =
-    let over = sym (c.valid.ensures ∙ ap is_valid (square-is c.before.before.before)) ∙ c.if-not-valid.true in
+    let inverse-is : c.inverse-v.result ≡ inverse_of (value_at c.args.t.now c.args.i) = c.inverse-v.ensures ∙ ap inverse_of c.value.ensures in
+    let square-is : c.power-q.result ≡ pow_of (inverse_of (value_at c.args.t.now c.args.i)) 2 = c.power-q.ensures ∙ ap (λ (v : Range). pow_of v 2) inverse-is in
+    let over = sym (c.valid.ensures ∙ ap is_valid square-is) ∙ c.if-not-valid.true in
     worked-over _ _ _ _ _ c.none.ensures (inverse-over _ over _)
 
 pub inverse_spectrum-e-requires : goal.inverse_spectrum-e-requires
 inverse_spectrum-e-requires c =
+    let inverse-is : c.inverse-v.result ≡ inverse_of (value_at c.args.t.now c.args.i) = c.inverse-v.ensures ∙ ap inverse_of c.value.ensures in
     let line = c.requires.refers in
-    record { i_bound = refers-inside line c.requires.k_bound; fine = line.fine; v_value = inverse-is c.before.before.before.before.before }
+    record { i_bound = refers-inside line c.requires.k_bound; fine = line.fine; v_value = inverse-is }
 
 pub scaled-g-requires : goal.scaled-g-requires
 scaled-g-requires c =
@@ -51,15 +47,17 @@ settle-requires c =
 pub returns : goal.returns
 unfolding inv_row
 returns c =
+    let inverse-is : c.inverse-v.result ≡ inverse_of (value_at c.args.t.now c.args.i) = c.inverse-v.ensures ∙ ap inverse_of c.value.ensures in
+    let square-is : c.power-q.result ≡ pow_of (inverse_of (value_at c.args.t.now c.args.i)) 2 = c.power-q.ensures ∙ ap (λ (v : Range). pow_of v 2) inverse-is in
     let square-valid : is_valid c.power-q.result ≡ true = sym c.valid.ensures ∙ c.if-not-valid.false in
     let v = square-valid in
     let g = at (gradient_at c.args.t.now c.args.i) in
     worked _
-    (record { value = inverse-is c.before.before.before.before.before.before.before.before.before.before.before.before; spectrum = c.inverse_spectrum-e.ensures; support = c.support-p.ensures; nonlinear = c.reach-b.ensures })
+    (record { value = inverse-is; spectrum = c.inverse_spectrum-e.ensures; support = c.support-p.ensures; nonlinear = c.reach-b.ensures })
     _
     (λ a.
     ap (λ (q : Range). product_of q (g a)) c.negated.ensures
     ∙ product-negated _ (g a) v
-    ∙ ap (λ (q : Range). neg_of (product_of q (g a))) (square-is c.before.before.before.before.before.before.before.before.before.before.before))
-    (λ a o. zero-inverse _ _ (sym (ap is_valid (square-is c.before.before.before.before.before.before.before.before.before.before.before)) ∙ v) (c.requires.refers.fine.flat a o))
+    ∙ ap (λ (q : Range). neg_of (product_of q (g a))) square-is)
+    (λ a o. zero-inverse _ _ (sym (ap is_valid square-is) ∙ v) (c.requires.refers.fine.flat a o))
     _ _ _ _ _ _ _ _ (c.scaled-g.ensures.value, c.scaled-g.ensures.stored) c.settle.ensures

@@ -22,16 +22,17 @@ pub product_spectrum-e-requires : goal.product_spectrum-e-requires
 product_spectrum-e-requires c = record { i_bound = refers-inside c.requires.refers c.requires.k_bound; j_bound = refers-inside c.requires.refers_2 c.requires.k_bound; fine = c.requires.refers.fine; fine_2 = c.requires.refers_2.fine }
 
 pub of_product-g-requires : goal.of_product-g-requires
-of_product-g-requires c = (
-  c.requires.k_bound,
-  (
-    c.requires.blank,
-    (
-      c.requires.refers.earlier,
-      (c.requires.refers_2.earlier, (refers-valid c.requires.refers, (refers-valid c.requires.refers_2, product-u-requires c.before.before.before.before.before tt))),
-    ),
-  ),
-)
+of_product-g-requires c =
+    record {
+      k_bound = c.requires.k_bound;
+      blank = c.requires.blank;
+      i_lt_k = c.requires.refers.earlier;
+      j_lt_k = c.requires.refers_2.earlier;
+      i_value = refers-valid c.requires.refers;
+      j_value = refers-valid c.requires.refers_2;
+      v_value = ap is_valid c.value-v.ensures ∙ value-valid _ c.requires.refers.fine.valid;
+      w_value = ap is_valid c.value-w.ensures ∙ value-valid _ c.requires.refers_2.fine.valid;
+    }
 
 pub settle-requires : goal.settle-requires
 settle-requires c =

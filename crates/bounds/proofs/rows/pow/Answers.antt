@@ -15,15 +15,12 @@ use Rattle.bounds.proofs.Operands.{told-power}
 use Rattle.bounds.proofs.Working.{refers-inside, refers-valid, settle-asks, worked, worked-over}
 use Rattle.bounds.proofs.Zeros.{zero-power, power-over}
 use Rattle.bounds.proofs.rows.pow.Goals as goal
-use Rattle.bounds.proofs.rows.pow.Goals.{After-power-q}
-
-power-is : (c : After-power-q) → c.power-q.result ≡ pow_of (value_at c.args.t.now c.args.i) (c.args.m - 1)
-power-is c = c.power-q.ensures ∙ ap (λ (v : Range). pow_of v (c.args.m - 1)) c.value-x.ensures
 
 pub returns-then-not-valid : goal.returns-then-not-valid
 unfolding pow_row
 returns-then-not-valid c =
-    let over = sym (c.valid.ensures ∙ ap is_valid (power-is c.before.before.before)) ∙ c.if-not-valid.true in
+    let power-is : c.power-q.result ≡ pow_of (value_at c.args.t.now c.args.i) (c.args.m - 1) = c.power-q.ensures ∙ ap (λ (v : Range). pow_of v (c.args.m - 1)) c.value-x.ensures in
+    let over = sym (c.valid.ensures ∙ ap is_valid power-is) ∙ c.if-not-valid.true in
     worked-over _ _ _ _ _ c.none.ensures (power-over _ over _ c.args.m)
 
 pub power_spectrum-e-requires : goal.power_spectrum-e-requires
@@ -47,6 +44,7 @@ settle-requires c =
 pub returns : goal.returns
 unfolding pow_row
 returns c =
+    let power-is : c.power-q.result ≡ pow_of (value_at c.args.t.now c.args.i) (c.args.m - 1) = c.power-q.ensures ∙ ap (λ (v : Range). pow_of v (c.args.m - 1)) c.value-x.ensures in
     let power-valid : is_valid c.power-q.result ≡ true = sym c.valid.ensures ∙ c.if-not-valid.false in
     let m = c.args.m in
     worked _
@@ -57,6 +55,6 @@ returns c =
       nonlinear = c.reach-b.ensures;
     })
     _
-    (λ a l. times_of m (product_of (power-is c.before.before.before.before.before.before.before.before.before.before.before l) (at (gradient_at c.args.t.now c.args.i) a)))
-    (λ a o. zero-power _ _ m (sym (ap is_valid (power-is c.before.before.before.before.before.before.before.before.before.before.before)) ∙ power-valid) (c.requires.refers.fine.flat a o))
+    (λ a l. times_of m (product_of (power-is l) (at (gradient_at c.args.t.now c.args.i) a)))
+    (λ a o. zero-power _ _ m (sym (ap is_valid power-is) ∙ power-valid) (c.requires.refers.fine.flat a o))
     _ _ _ _ _ _ _ _ (c.raised-g.ensures.value, c.raised-g.ensures.stored) c.settle.ensures

@@ -12,6 +12,7 @@ use Rattle.bounds.proofs.Operands.{told-sum}
 use Rattle.bounds.proofs.Filling.{filling-start, filling-index, filling-in, filling-out, filling-end}
 use Rattle.bounds.proofs.Storing.{storing-start, storing-more, storing-read, storing-valid}
 use Rattle.bounds.proofs.slopes.of_sum.Goals as goal
+use Rattle.bounds.proofs.slopes.of_sum.Goals.{then-rest-eq1, else-rest-eq1}
 
 pub loop-rest-init : goal.loop-rest-init
 loop-rest-init c = (filling-start (search rules), storing-start c.requires.k_bound c.sized.ensures c.requires.blank)
@@ -55,19 +56,18 @@ overflow_add-a c =
 pub loop-rest-preserved : goal.loop-rest-preserved
 loop-rest-preserved c =
     let index : c.loop-rest.a < 8 = filling-index c.loop-rest.invariant.0 c.loop-rest-test.true in
-    let start = c.before.before.before.before.before in
-    let args = start.args in
-    let pre = start.requires.1.1 in
+    let args = c.args in
+    let pre = c.requires in
     let inv = c.loop-rest.invariant in
     let a = c.loop-rest.a in
     let h = index in
     elim c.if-rest-eq1.branch [
-      | inl w ↦
-          let x = storing-read inv.1 args.i a pre.0 w.2.ensures in
-          let y = storing-read inv.1 args.j a pre.1.0 w.4.ensures in
-          rw (w.9, w.10, w.11, w.8.ensures, w.7.ensures)
-          (filling-in inv.0 h w.0.taken _ (w.5.ensures ∙ ap₂ sum_of x y), storing-more inv.1 h _)
-      | inr w ↦ rw (w.1, w.2, w.3) (filling-out inv.0 h w.0.left, inv.1)
+      | then-rest-eq1 w ↦
+          let x = storing-read inv.1 args.i a pre.i_lt_k w.slope.ensures in
+          let y = storing-read inv.1 args.j a pre.j_lt_k w.slope-then-rest-eq1.ensures in
+          rw (w.t-is, w.g-is, w.ok-is, w.is_range-ok.ensures, w.put_slope.ensures)
+          (filling-in inv.0 h w.if-rest-eq1.true _ (w.sum-r.ensures ∙ ap₂ sum_of x y), storing-more inv.1 h _)
+      | else-rest-eq1 w ↦ rw (w.t-is, w.g-is, w.ok-is) (filling-out inv.0 h w.if-rest-eq1.false, inv.1)
     ]
 
 pub returns : goal.returns
