@@ -165,6 +165,23 @@ module _ (div : ℤ → ℕ → ℤ) (on-pos : (n d : ℕ) → div (pos n) d ≡
           let f : suc n * e ≡ suc m * d = omega (ints, neg-dif (pos (suc n * e)), neg-dif (pos (suc m * d))) in
           on-neg n d ∙ ap negsuc (N.le_antisymm (quotient-suc-≤ n m p q f) (quotient-suc-≤ m n q p (sym f))) ∙ sym (on-neg m e)
 
+-- and one that rounds toward 0: a definition of that kind is refused for what it gives, and not because it gives equal fractions apart (exact's
+-- must-fail edit `floor_toward_zero`)
+module _ (div : ℤ → ℕ → ℤ) (on-pos : (n d : ℕ) → div (pos n) d ≡ pos (n / d)) (on-neg : (n d : ℕ) → div (negsuc n) d ≡ neg_ℤ (pos (suc n / d))) where
+  pub truncated-cong : {x y : Frac} → x ≃ y → div x.num x.den ≡ div y.num y.den
+  truncated-cong {x} {y} h = go x.num y.num x.den_pos y.den_pos h.cross
+    where
+      go : (a b : ℤ) {d e : ℕ} → zero < d → zero < e → a *ℤ pos e ≡ b *ℤ pos d → div a d ≡ div b e
+      go (pos n) (pos m) {d} {e} p q h =
+          let f : n * e ≡ m * d = omega ints in
+          on-pos n d ∙ ap pos (N.le_antisymm (quotient-≤ n m p q f) (quotient-≤ m n q p (sym f))) ∙ sym (on-pos m e)
+      go (pos n) (negsuc m) {d} p q h = let f : ⊥ = omega (ints, pos_part-neg (pos (suc m * d)), neg-dif (pos (suc m * d))) in absurd f
+      go (negsuc n) (pos m) {d} {e} p q h = let f : ⊥ = omega (ints, pos_part-neg (pos (suc n * e)), neg-dif (pos (suc n * e))) in absurd f
+      go (negsuc n) (negsuc m) {d} {e} p q h =
+          let f : suc n * e ≡ suc m * d = omega (ints, neg-dif (pos (suc n * e)), neg-dif (pos (suc m * d))) in
+          let g : suc n / d ≡ suc m / e = N.le_antisymm (quotient-≤ (suc n) (suc m) p q f) (quotient-≤ (suc m) (suc n) q p (sym f)) in
+          on-neg n d ∙ ap (λ k. neg_ℤ (pos k)) g ∙ sym (on-neg m e)
+
 -- ════ the ring ════
 
 pub add_assoc : (x y z : Frac) → add (add x y) z ≃ add x (add y z)
