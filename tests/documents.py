@@ -6,7 +6,7 @@ An example of SHEET.md is a block between lines ```: the input, a line `prints:`
 With a line `tidied:` in the place of `prints:` the program is `tidy`, with `reported:` it is `fleet`, with `cut:` it is `cut`, with `sisters:` it is
 `sisters`, with `formula:` it is `formula`, else it is `rate`. The first example of README.md and of SHEET.md is indented, and has a remark behind
 the fields of each line; in the README blanks stand for the tabs. In the same way an indented paragraph of any of the three may have a command as its
-first line, `$ target/bin/tidy < examples/FILE` (or `rate`, `fleet`, `cut`, `sisters`, `formula`) or `$ cat examples/FILE`, and what it prints below;
+first line, `$ crates/tidy/out/tidy < examples/FILE` (or `rate`, `fleet`, `cut`, `sisters`, `formula`) or `$ cat examples/FILE`, and what it prints below;
 the file may be in a directory of examples/. The commands of README.md, "Use from C and Python", are left to tests/quoting.py, which has the library.
 
 Fails, too, where an operation, a refusal or the year 2014 has no example, where a program has none in README.md, where a refusal that a program
@@ -97,7 +97,7 @@ def commands(document):
         command, *output = paragraph.strip("\n").split("\n")
         if not command.startswith("    $ "):
             continue
-        form = re.fullmatch(r" {4}\$ (?:target/bin/(rate|tidy|fleet|cut|sisters|formula) <|(cat)) (examples/(?:\w+/)?[\w.-]+)", command)
+        form = re.fullmatch(r" {4}\$ (?:crates/(rate|tidy|fleet|cut|sisters|formula)/out/\1 <|(cat)) (examples/(?:\w+/)?[\w.-]+)", command)
         if form is None:
             raise SystemExit(f"{named(document)}: a command of another form: {command.strip()}")
         yield Example(f"{named(document)}: {command.strip()}", form[1] or form[2], (ROOT / form[3]).read_bytes(), unremarked(output))

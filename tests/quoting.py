@@ -2,7 +2,7 @@
 """Tests the library for C programs (02, requests 10 and 13): the header, the examples, and the two functions, by calls and by a fuzzer.
 
 tests/quoting.py [--archive PATH] [--seed N] [--count N] [--sequences N] [--fuzz N] [--jobs N]
-    the archive: proved and built by `rt staticlib motmotdivan`, unless one is named
+    the archive: proved and built by `./archive`, unless one is named
     README.md, "Use from C and Python": its commands as they stand there, in a folder that is removed afterwards, and what they print; examples/quote.c
     and examples/quote.py beside the files of what they print
     include/motmotdivan.h as C++, where there is a compiler for it; the bytes of docs/STATE.md
@@ -107,8 +107,8 @@ def examples_in(folder, archive, runs):
     (folder / ARCHIVE).parent.mkdir(parents=True)
     shutil.copy(archive, folder / ARCHIVE)
     commands = section()
-    if not commands or commands[0] != ("rt staticlib motmotdivan", None):
-        runs.judge(f"{README.name}, '{CALLED}'", "its first command is not `rt staticlib motmotdivan`")
+    if not commands or commands[0] != ("./archive", None):
+        runs.judge(f"{README.name}, '{CALLED}'", "its first command is not `./archive`")
     for command, output in commands[1:]:
         written = [EXAMPLES / name for word, name in PRINTED.items() if command.startswith(word)]
         expected = written[0].read_bytes() if written else output or b""
@@ -228,7 +228,7 @@ def fuzz(folder, archive, arguments, runs):
 
 def main():
     parser = argparse.ArgumentParser(description=__doc__, formatter_class=argparse.RawDescriptionHelpFormatter)
-    parser.add_argument("--archive", type=Path, help="the archive, if not the one of `rt staticlib motmotdivan`")
+    parser.add_argument("--archive", type=Path, help="the archive, if not the one of `./archive`")
     parser.add_argument("--seed", type=int, default=1)
     parser.add_argument("--count", type=int, default=7000, help="random sheets, each loaded and rated by")
     parser.add_argument("--sequences", type=int, default=120, help="of calls on one desk, with all four classes rated behind each step")
@@ -240,7 +240,7 @@ def main():
     runs = Runs()
     if shutil.which("cc") is None:
         runs.judge("a C compiler", "cc is missing: the library for C programs is tested with it")
-    elif arguments.archive or runs.run("rt staticlib motmotdivan", ["rt", "staticlib", "motmotdivan"], ROOT):
+    elif arguments.archive or runs.run("./archive", ["./archive"], ROOT):
         archive = (arguments.archive or ROOT / ARCHIVE).resolve()
         with tempfile.TemporaryDirectory() as folder:
             test_archive(Path(folder), archive, arguments, runs)

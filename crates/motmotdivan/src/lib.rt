@@ -1,5 +1,6 @@
 // The class-limit engine for a program in C (02, requests 10 and 13): load and rate as two functions on lent bytes, by class number. Both return a refusal's
 // number plus 100 times its place, or 0 where accepted; whatever the numbers and bytes are, there is an outcome, and each byte afterwards is known.
+// A crate is a library or a static library, not both: `motmotdivan_c` exports the two to C under these names.
 #![tactic(auto)]
 
 ghost use Rattle.std.specs.Prelude.{◌≡◌};
@@ -14,8 +15,7 @@ mod slot; // slot.rt: load and rate on the bytes of one class
 
 // Loads a codelist (02's sheet) from a text into the bytes of a class. Refused, all bytes are as before; the other classes' are in any case. A number that is
 // no class's gets 21, and then a desk of another length 10.
-#[unsafe(no_mangle)]
-pub extern "C" fn motmotdivan_load(class: u64, state: &mut [u8], text: &[u8]) -> u64
+pub fn motmotdivan_load(class: u64, state: &mut [u8], text: &[u8]) -> u64
     ensures value { result ≡ class_load_code class state.old text.now }
     ensures state_after { state.new ≡ class_load_state class state.old text.now }
 {
@@ -31,8 +31,7 @@ pub extern "C" fn motmotdivan_load(class: u64, state: &mut [u8], text: &[u8]) ->
 
 // Rates the ranges, sixteen doubles, by the codelist of a class into the result, twenty-four doubles. After a refusal these are zeros; a result of another
 // length is not written. A number that is no class's gets 21; of a desk of another length no bytes are the class's, so that it is empty.
-#[unsafe(no_mangle)]
-pub extern "C" fn motmotdivan_rate(class: u64, state: &[u8], ranges: &[u8], res: &mut [u8]) -> u64
+pub fn motmotdivan_rate(class: u64, state: &[u8], ranges: &[u8], res: &mut [u8]) -> u64
     ensures value { result ≡ class_rate_code class state.now ranges.now res.old }
     ensures res_after { res.new ≡ class_rate_record class state.now ranges.now res.old }
 {
