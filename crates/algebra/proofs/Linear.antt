@@ -16,7 +16,7 @@ use Rattle.algebra.proofs.Poly.{val, val-add, val-neg, val-mul, val-num, val-zer
 use Rattle.algebra.proofs.Solver.{Expr, Over, named, All, everywhere, poly, eval, val-poly, :0, :1, ◌:-◌, :-◌, ◌:=◌, ring}
 use Rattle.algebra.proofs.Ordered as Ord
 use Rattle.algebra.proofs.Ordered.{OrderedRing}
-use Rattle.algebra.proofs.Search.{Fact, weak, strict, poly_of, bites, Found, none, combo, clash, find}
+use Rattle.algebra.proofs.Search.{Fact, weak, strict, poly_of, bites, bites_or, Found, none, combo, clash, find}
 
 infix 60 ◌:≤◌
 infix 60 ◌:<◌
@@ -46,11 +46,6 @@ pub data NotFound : Type 0 where
 abbrev pub VanishesIf : Bool → Term → Type 0
 VanishesIf true t = Vanishes t
 VanishesIf false t = NotFound
-
--- whether a sum with c is positive
-abbrev pub bites_or : List ℕ → List Fact → ℕ → Bool
-bites_or ks Γ zero = bites ks Γ
-bites_or ks Γ (suc c) = true
 
 abbrev pub Verified : Found → Poly → List Fact → Type 0
 Verified none g Γ = NotFound

@@ -24,6 +24,11 @@ bites (k ∷ ks) (weak p ∷ Γ) = bites ks Γ
 bites (zero ∷ ks) (strict p ∷ Γ) = bites ks Γ
 bites (suc k ∷ ks) (strict p ∷ Γ) = true
 
+-- whether a sum with c is positive
+abbrev pub bites_or : List ℕ → List Fact → ℕ → Bool
+bites_or ks Γ zero = bites ks Γ
+bites_or ks Γ (suc c) = true
+
 abbrev Terms : Type 0
 Terms = List (ℕ × ℤ)
 

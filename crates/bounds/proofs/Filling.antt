@@ -82,7 +82,7 @@ module _ {s : ℕ} {f : ℕ → Range} where
           (turn g zero_range (member false (ne_eqb _ 1 e)) refl (i.left a (N.le_refl a)) (λ b n. refl))
 
   -- where nothing is left, the turns that the loop is spared change nothing
-  to_last : {g : List Range} {ok : Bool} {a : ℕ} (n : ℕ) → n + a ≡ 8 → Filling s f g ok 0 a → Filling s f g ok 0 8
+  to_last : {g : List Range} {ok : Bool} (n : ℕ) {a : ℕ} → n + a ≡ 8 → Filling s f g ok 0 a → Filling s f g ok 0 8
   to_last zero e i = subst (Filling s f _ _ 0) (omega arith) i
   to_last (suc n) e i = to_last n (omega arith) (filling-out i (omega arith) (λ z. omega arith))
 

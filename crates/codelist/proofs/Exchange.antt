@@ -130,11 +130,11 @@ op-written n (kept o) h = line_kept _ (line-whole (text_line_of o)) h
 op-written n (add i j) h = swapped (add_line (plain i) (plain j)) n h
 op-written n (mul i j) h = swapped (mul_line (plain i) (plain j)) n h
 
-ops-written : (e : ℕ) {xs ys : List Entry} → WellFormedOps e xs → e + length xs ≤ 64 → OneByOne ExchangedEntry xs ys
+ops-written : (e : ℕ) {xs ys : List Entry} → OneByOne ExchangedEntry xs ys → WellFormedOps e xs → e + length xs ≤ 64
     → ExchangedText (ops_text xs) (ops_text ys)
-ops-written e w l none = left []
-ops-written e (w, ws) l (more {x} {y} h hs) =
-    op-written (writes 0 e (omega arith) x.op w) h (ops-written (e + 1) ws (omega arith) hs)
+ops-written e none w l = left []
+ops-written e (more {x} {y} h hs) (w, ws) l =
+    op-written (writes 0 e (omega arith) x.op w) h (ops-written (e + 1) hs ws (omega arith))
 
 -- THE TEXTS WRITTEN DIFFER IN THE SWAPS ALONE
 pub exchange-write : ExchangeWrite
@@ -142,4 +142,4 @@ unfolding text_of text_with
 exchange-write c d w h =
     rw (← h.factors, ← h.year, ← h.count)
     (line_kept _ (first-whole (plain c.factors) (field_of c.year))
-    (ops-written c.factors w.each (omega (arith, taken c (well-formed-ratable w), w.few)) (each_take ExchangedEntry c.count h.ops)))
+    (ops-written c.factors (each_take ExchangedEntry c.count h.ops) w.each (omega (arith, taken c (well-formed-ratable w), w.few))))

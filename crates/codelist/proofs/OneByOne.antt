@@ -19,7 +19,7 @@ module _ {A : Type 0} (R : A → A → Type 0) where
   pub each_snoc : {x y : A} {xs ys : List A} → OneByOne R xs ys → R x y → OneByOne R (xs ++ (x ∷ [])) (ys ++ (y ∷ []))
   each_snoc hs r = each_append hs (more r none)
 
-  pub each_take : {xs ys : List A} (n : ℕ) → OneByOne R xs ys → OneByOne R (take n xs) (take n ys)
+  pub each_take : (n : ℕ) {xs ys : List A} → OneByOne R xs ys → OneByOne R (take n xs) (take n ys)
   each_take zero hs = none
   each_take (suc n) none = none
   each_take (suc n) (more h hs) = more h (each_take n hs)

@@ -81,6 +81,7 @@ module _ (s : List ℕ) (k : ℕ) where
 
 -- ---- the numbers
 in-first : (n : ℕ) (xs ys : List ℕ) → Memᴰ n xs → Memᴰ n (xs ++ ys)
+in-first n [] ys m = elim m [ ]
 in-first n (x ∷ xs) ys (Memᴰ.head e) = Memᴰ.head e
 in-first n (x ∷ xs) ys (Memᴰ.tail m) = Memᴰ.tail (in-first n xs ys m)
 

@@ -22,6 +22,7 @@ has n [] = false
 has n (m ∷ l) = cond (eqb n m) true (has n l)
 
 has-member : (n : ℕ) (l : List ℕ) → Memᴰ n l → has n l ≡ true
+has-member n [] m = elim m [ ]
 has-member n (m ∷ l) (Memᴰ.head e) = rw (eq-eqb n m e)
 has-member n (m ∷ l) (Memᴰ.tail t) = go (eqb n m) (has-member n l t)
   where

@@ -19,7 +19,6 @@ use Rattle.range.proofs.Valid.{T_true, true-T}
 use Rattle.range.proofs.Bounded.{ScaledEnds}
 use Rattle.rules.specs.declared.Line.{Line}
 use Rattle.rules.specs.declared.Limits.{Limits}
-use Rattle.rules.specs.Formula.{given}
 use Rattle.rules.specs.Sets.{all_of}
 use Rattle.rules.specs.Table.{factor_row, line_of}
 use Rattle.rules.specs.Run.{always_bent, within}

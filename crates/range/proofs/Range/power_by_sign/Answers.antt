@@ -1,0 +1,26 @@
+-- `range::Range::power_by_sign` meets its contract. Assumes nothing.
+use borrow.Author.Rules.{rules}
+use Rattle.range.specs.Power.{pow_by_sign}
+use Rattle.range.proofs.Fitting.{branching}
+use Rattle.range.proofs.Range.power_by_sign.Goals as goal
+
+pub returns-then-self-ge0 : goal.returns-then-self-ge0
+unfolding pow_by_sign
+returns-then-self-ge0 c = search (rules, branching)
+
+pub returns-then-self-le0 : goal.returns-then-self-le0
+unfolding pow_by_sign
+returns-then-self-le0 c = search (rules, branching)
+
+pub returns-else-self-le0 : goal.returns-else-self-le0
+unfolding pow_by_sign
+returns-else-self-le0 c = search (rules, branching)
+
+pub power_above-requires : goal.power_above-requires
+power_above-requires c = search (rules, branching)
+
+pub power_below-requires : goal.power_below-requires
+power_below-requires c = search (rules, branching)
+
+pub power_across-requires : goal.power_across-requires
+power_across-requires c = search (rules, branching)
