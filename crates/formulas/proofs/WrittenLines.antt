@@ -17,7 +17,7 @@ use Rattle.formulas.specs.declared.reader.Operand as declared
 use Rattle.formulas.specs.declared.reader.Sign as code
 use Rattle.formulas.specs.declared.reader.State.{State}
 use Rattle.formulas.specs.Grammar.{Sign, plus, minus, times, over}
-use Rattle.formulas.specs.Convert.{joined, Operand, fixed, line, Conversion, operand, mixed, one, two as both, next, lines_text, negated}
+use Rattle.formulas.specs.Convert.{joined, Operand, fixed, line, Conversion, mixed, one, two as both, next, lines_text, negated}
 use Rattle.formulas.specs.Views.{sign_of, operand_of, number, Short, with_line, without_line, Added, Draft, Holds, HoldsAll, Makes, Puts}
 
 -- ════ the text of a line, as `writer` puts it and as a sheet has it ════
