@@ -55,7 +55,10 @@ fn next(n: u64) -> u64 {
 }
 
 fn say(out: &impl Print, text: &[u8], number: u64, place: u64, f: Found) -> io::Result<()> {
-    println!(out; "missed: {number} at {place}, found {} at {}, for", f.number, f.place)?;
+    println!(out;
+        "missed: {number} at {place}, found {} at {}, for",
+        f.number, f.place
+    )?;
     out.write_all(text)?;
     out.write_all(b"\n")
 }
@@ -296,5 +299,8 @@ fn main(rt: HostRuntime) -> io::Result<()> {
     let mut table = [0u8; 8192];
     let n = streams::read_full(&mut rt.stdin(), &mut table)?;
     let t = try_all(&rt, &table[..n])?;
-    println!(rt; "{} edges, missed {}, longest accepted {}", t.tried, t.missed, t.longest)
+    println!(rt;
+        "{} edges, missed {}, longest accepted {}",
+        t.tried, t.missed, t.longest
+    )
 }
