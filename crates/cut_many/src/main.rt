@@ -6,27 +6,29 @@
 ghost use Rattle.std.specs.Prelude.{◌≤◌, length};
 
 use codelist::NumeralRead;
+use std::env::Env;
+use std::io;
 use text::Text;
 
-fn main() {
+fn main(rt: HostRuntime) -> io::Result<()> {
     let mut arg = [0u8; 16];
-    let _ = os::arg(1, &mut arg);
+    let _ = rt.arg(1, &mut arg);
     let times = times_of(&arg);
     let mut job = [0u8; 16];
-    let j = os::arg(2, &mut job);
+    let j = rt.arg(2, &mut job).unwrap_or(0);
     let mut input = [0u8; 8193];
-    let n = io::read_full(0, &mut input);
+    let n = streams::read_full(&mut rt.stdin(), &mut input)?;
     let t = answer(&job[..j], &input[..n], times);
     let bytes = t.bytes;
     let len = t.len;
-    io::write_all(1, &bytes[..len]);
+    rt.write_all(&bytes[..len])
 }
 
 // What the job prints: `rate` is ratings, and no job is cuts.
 fn answer(job: &[u8], input: &[u8], times: u64) -> Text
     ensures { result.len ≤ length result.bytes }
 {
-    if check::same(job, b"rate") {
+    if job == b"rate".as_slice() {
         return text::answer_after(input, times);
     }
     cut_text::answer_after(input, times)

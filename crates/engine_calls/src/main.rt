@@ -5,17 +5,9 @@
 
 use codelist::{Codelist, Entry, Op, Year};
 use engine::{Engine, Outcome};
-use libc::STDOUT_FILENO;
 use range::Range;
 use rules::Limits;
-
-fn word(w: &[u8]) {
-    io::write_all(STDOUT_FILENO, w);
-}
-
-fn count(n: u64) {
-    io::print_decimal(STDOUT_FILENO, n);
-}
+use std::io;
 
 fn number(o: Outcome) -> u64 {
     match o {
@@ -29,13 +21,6 @@ fn place(o: Outcome) -> u64 {
         Outcome::Accepted => 0,
         Outcome::Refused(why) => why.place(),
     }
-}
-
-fn say(call: &[u8], number: u64, place: u64) {
-    word(call);
-    count(number);
-    word(b" at ");
-    count(place);
 }
 
 fn same(a: Range, b: Range) -> bool {
@@ -115,128 +100,125 @@ fn whose(l: Limits) -> u64 {
 }
 
 // A load, and the engine after it.
-fn load(e: Engine, text: &[u8]) -> Engine {
+fn load(out: &impl Print, e: Engine, text: &[u8]) -> io::Result<Engine> {
     let l = e.load(text);
     let outcome = l.outcome;
-    say(b"load: ", number(outcome), place(outcome));
-    word(b"\n");
-    l.engine
+    println!(out; "load: {} at {}", number(outcome), place(outcome))?;
+    Ok(l.engine)
 }
 
 // The same of a formula.
-fn load_formula(e: Engine, text: &[u8], factors: u64) -> Engine {
+fn load_formula(out: &impl Print, e: Engine, text: &[u8], factors: u64) -> io::Result<Engine> {
     let l = e.load_formula(text, factors);
     let outcome = l.outcome;
-    say(b"formula: ", number(outcome), place(outcome));
-    word(b"\n");
-    l.engine
+    println!(out; "formula: {} at {}", number(outcome), place(outcome))?;
+    Ok(l.engine)
 }
 
-fn rate(e: Engine, ranges: &[i64]) {
+fn rate(out: &impl Print, e: Engine, ranges: &[i64]) -> io::Result<()> {
     let r = e.rate(ranges);
     let outcome = r.outcome;
-    let l = r.limits;
-    say(b"rate: ", number(outcome), place(outcome));
-    word(b", limits ");
-    count(whose(l));
-    word(b"\n");
+    let whose = whose(r.limits);
+    println!(out;
+        "rate: {} at {}, limits {whose}",
+        number(outcome),
+        place(outcome)
+    )
 }
 
-fn rate_one(e: Engine, low: i64, high: i64) {
-    let one = [low, high];
-    rate(e, &one);
+fn rate_one(out: &impl Print, e: Engine, low: i64, high: i64) -> io::Result<()> {
+    rate(out, e, &[low, high])
 }
 
-fn rate_two(e: Engine, low: i64, high: i64) {
-    let two = [0, 10_000, low, high];
-    rate(e, &two);
+fn rate_two(out: &impl Print, e: Engine, low: i64, high: i64) -> io::Result<()> {
+    rate(out, e, &[0, 10_000, low, high])
 }
 
-fn square(e: Engine) -> Engine {
-    load(e, b"factors\t1\npow\t1\t2\n")
+fn square(out: &impl Print, e: Engine) -> io::Result<Engine> {
+    load(out, e, b"factors\t1\npow\t1\t2\n")
 }
 
 // A load that is to be refused: the engine rates the square as before.
-fn keeps(e: Engine, text: &[u8]) -> Engine {
-    let after = load(e, text);
-    rate_one(after, 10_000, 30_000);
-    after
+fn keeps(out: &impl Print, e: Engine, text: &[u8]) -> io::Result<Engine> {
+    let after = load(out, e, text)?;
+    rate_one(out, after, 10_000, 30_000)?;
+    Ok(after)
 }
 
 // Nothing is loaded: 10, before 8 and 9.
-fn fresh(e: Engine) {
-    rate_one(e, 10_000, 30_000);
-    rate_one(e, 1, 0);
-    rate_two(e, 0, 10_000);
+fn fresh(out: &impl Print, e: Engine) -> io::Result<()> {
+    rate_one(out, e, 10_000, 30_000)?;
+    rate_one(out, e, 1, 0)?;
+    rate_two(out, e, 0, 10_000)
 }
 
 // Refusals 1 to 4 and 17.
-fn refused_first(e: Engine) -> Engine {
+fn refused_first(out: &impl Print, e: Engine) -> io::Result<Engine> {
     let long = [b'\n'; 4097];
-    let e = keeps(e, &long);
-    let e = keeps(e, b"");
-    let e = keeps(e, b"factors\t9\ninv\t1\n");
-    let e = keeps(e, b"factors\t1\t2015\ninv\t1\n");
-    keeps(e, b"factors\t2\n")
+    let e = keeps(out, e, &long)?;
+    let e = keeps(out, e, b"")?;
+    let e = keeps(out, e, b"factors\t9\ninv\t1\n")?;
+    let e = keeps(out, e, b"factors\t1\t2015\ninv\t1\n")?;
+    keeps(out, e, b"factors\t2\n")
 }
 
 // Refusals 5 to 7 and 15, and 2 once more, behind lines that would be a codelist by themselves.
-fn refused_later(e: Engine) -> Engine {
-    let e = keeps(e, b"factors\t1\ninv\t1\ninv\t9\n");
-    let e = keeps(e, b"factors\t1\ninv\t1\npow\t1\t9\n");
-    let e = keeps(e, b"factors\t1\ninv\t1\naddc\t1\t2000000001\n");
-    let e = keeps(e, b"factors\t1\ninv\t1\nmulc\t1\t0\n");
-    keeps(e, b"factors\t1\ninv\t1\ninv\t1")
+fn refused_later(out: &impl Print, e: Engine) -> io::Result<Engine> {
+    let e = keeps(out, e, b"factors\t1\ninv\t1\ninv\t9\n")?;
+    let e = keeps(out, e, b"factors\t1\ninv\t1\npow\t1\t9\n")?;
+    let e = keeps(out, e, b"factors\t1\ninv\t1\naddc\t1\t2000000001\n")?;
+    let e = keeps(out, e, b"factors\t1\ninv\t1\nmulc\t1\t0\n")?;
+    keeps(out, e, b"factors\t1\ninv\t1\ninv\t1")
 }
 
 // The sum has two factors: the square's range is no longer enough (8). Refused ratings change nothing.
-fn replaced(e: Engine) -> Engine {
-    let e = load(e, b"factors\t2\npow\t1\t2\npow\t2\t2\nadd\t3\t4\n");
-    rate_one(e, 10_000, 30_000);
-    rate_two(e, 0, 10_000);
-    rate_two(e, 1, 0);
-    rate_two(e, 0, 2_000_000_001);
-    rate_two(e, 0, 2_000_000_000);
-    rate_two(e, 0, 10_000);
-    e
+fn replaced(out: &impl Print, e: Engine) -> io::Result<Engine> {
+    let e = load(out, e, b"factors\t2\npow\t1\t2\npow\t2\t2\nadd\t3\t4\n")?;
+    rate_one(out, e, 10_000, 30_000)?;
+    rate_two(out, e, 0, 10_000)?;
+    rate_two(out, e, 1, 0)?;
+    rate_two(out, e, 0, 2_000_000_001)?;
+    rate_two(out, e, 0, 2_000_000_000)?;
+    rate_two(out, e, 0, 10_000)?;
+    Ok(e)
 }
 
 // 01's figures for 11 and 12; then the square again.
-fn inverse(e: Engine) {
-    let e = load(e, b"factors\t1\ninv\t1\n");
-    rate_one(e, 0, 10_000);
-    rate_one(e, 1, 1);
-    let e = square(e);
-    rate_one(e, 10_000, 30_000);
+fn inverse(out: &impl Print, e: Engine) -> io::Result<()> {
+    let e = load(out, e, b"factors\t1\ninv\t1\n")?;
+    rate_one(out, e, 0, 10_000)?;
+    rate_one(out, e, 1, 1)?;
+    let e = square(out, e)?;
+    rate_one(out, e, 10_000, 30_000)
 }
 
 // A formula that is to be refused: the engine rates the sum as before.
-fn keeps_sum(e: Engine, text: &[u8], factors: u64) -> Engine {
-    let after = load_formula(e, text, factors);
-    rate_two(after, 0, 10_000);
-    after
+fn keeps_sum(out: &impl Print, e: Engine, text: &[u8], factors: u64) -> io::Result<Engine> {
+    let after = load_formula(out, e, text, factors)?;
+    rate_two(out, after, 0, 10_000)?;
+    Ok(after)
 }
 
 // Formulas (02, request 12): the sum of two squares; 19 by a byte, by the end and by the length, 20, and what loading their sheets refuses; then the square.
-fn formulas(e: Engine) {
-    let e = keeps_sum(e, b"f1^2+f2^2", 2);
-    let e = keeps_sum(e, b"f1^2+f9", 2);
-    let e = keeps_sum(e, b"f1^2+", 2);
+fn formulas(out: &impl Print, e: Engine) -> io::Result<()> {
+    let e = keeps_sum(out, e, b"f1^2+f2^2", 2)?;
+    let e = keeps_sum(out, e, b"f1^2+f9", 2)?;
+    let e = keeps_sum(out, e, b"f1^2+", 2)?;
     let long = [b'f'; 1025];
-    let e = keeps_sum(e, &long, 2);
-    let e = keeps_sum(e, b"2*3*f1", 2);
-    let e = keeps_sum(e, b"f1^2", 9);
-    let e = keeps_sum(e, b"f1+f3", 2);
-    let e = keeps_sum(e, b"f1^9", 2);
-    let e = keeps_sum(e, b"f1+200000.0001", 2);
-    let e = keeps_sum(e, b"f1-0*f2", 2);
-    let e = load_formula(e, b"f1^2", 1);
-    rate_one(e, 10_000, 30_000);
+    let e = keeps_sum(out, e, &long, 2)?;
+    let e = keeps_sum(out, e, b"2*3*f1", 2)?;
+    let e = keeps_sum(out, e, b"f1^2", 9)?;
+    let e = keeps_sum(out, e, b"f1+f3", 2)?;
+    let e = keeps_sum(out, e, b"f1^9", 2)?;
+    let e = keeps_sum(out, e, b"f1+200000.0001", 2)?;
+    let e = keeps_sum(out, e, b"f1-0*f2", 2)?;
+    let e = load_formula(out, e, b"f1^2", 1)?;
+    rate_one(out, e, 10_000, 30_000)
 }
 
 // An engine that was not loaded but written down, with `mulc→1→c`: by 0 it is one that no accepted load leaves and counts as empty, 10 before 8 and 9;
 // by one unit it is rated.
-fn written_down(c: i64) {
+fn written_down(out: &impl Print, c: i64) -> io::Result<()> {
     let e = Engine {
         codelist: Codelist {
             factors: 1,
@@ -245,21 +227,22 @@ fn written_down(c: i64) {
             ops: [Entry { op: Op::MulC(1, c) }; 64],
         },
     };
-    rate_one(e, 10_000, 30_000);
-    rate_one(e, 1, 0);
-    rate_two(e, 0, 10_000);
+    rate_one(out, e, 10_000, 30_000)?;
+    rate_one(out, e, 1, 0)?;
+    rate_two(out, e, 0, 10_000)
 }
 
-fn main() {
+fn main(rt: HostRuntime) -> io::Result<()> {
+    let out = &rt;
     let e = Engine::new();
-    fresh(e);
-    let e = square(e);
-    rate_one(e, 10_000, 30_000);
-    let e = refused_first(e);
-    let e = refused_later(e);
-    let e = replaced(e);
-    inverse(e);
-    formulas(e);
-    written_down(0);
-    written_down(1);
+    fresh(out, e)?;
+    let e = square(out, e)?;
+    rate_one(out, e, 10_000, 30_000)?;
+    let e = refused_first(out, e)?;
+    let e = refused_later(out, e)?;
+    let e = replaced(out, e)?;
+    inverse(out, e)?;
+    formulas(out, e)?;
+    written_down(out, 0)?;
+    written_down(out, 1)
 }

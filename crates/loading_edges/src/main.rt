@@ -9,7 +9,7 @@
 ghost use Rattle.std.specs.Prelude.{◌≤◌, length};
 
 use codelist::Outcome;
-use libc::{STDIN_FILENO, STDOUT_FILENO};
+use std::io;
 
 // Room for a text that is too long.
 type Text = [u8; 4200];
@@ -54,49 +54,58 @@ fn next(n: u64) -> u64 {
     if n < 1_000_000 { n + 1 } else { n }
 }
 
-fn say(text: &[u8], number: u64, place: u64, f: Found) {
-    io::write_all(STDOUT_FILENO, b"missed: ");
-    io::print_decimal(STDOUT_FILENO, number);
-    io::write_all(STDOUT_FILENO, b" at ");
-    io::print_decimal(STDOUT_FILENO, place);
-    io::write_all(STDOUT_FILENO, b", found ");
-    io::print_decimal(STDOUT_FILENO, f.number as u64);
-    io::write_all(STDOUT_FILENO, b" at ");
-    io::print_decimal(STDOUT_FILENO, f.place);
-    io::write_all(STDOUT_FILENO, b", for\n");
-    io::write_all(STDOUT_FILENO, text);
-    io::write_all(STDOUT_FILENO, b"\n");
+fn say(out: &impl Print, text: &[u8], number: u64, place: u64, f: Found) -> io::Result<()> {
+    println!(out;
+        "missed: {number} at {place}, found {} at {}, for",
+        f.number, f.place
+    )?;
+    out.write_all(text)?;
+    out.write_all(b"\n")
 }
 
 impl Tally {
     // The text is refused with that number at that place, and its codelist is kept exactly where it is accepted.
-    fn edge(self, text: &[u8], number: u64, place: u64) -> Tally {
+    fn edge(self, out: &impl Print, text: &[u8], number: u64, place: u64) -> io::Result<Tally> {
         let f = load(text);
         let accepted = number == 0;
         if !((f.number as u64 == number) & (f.place == place) & (f.kept == accepted)) {
-            say(text, number, place, f);
-            return Tally {
+            say(out, text, number, place, f)?;
+            return Ok(Tally {
                 tried: next(self.tried),
                 missed: next(self.missed),
                 longest: self.longest,
-            };
+            });
         }
         let longer = accepted & (self.longest < text.len());
-        Tally {
+        Ok(Tally {
             tried: next(self.tried),
             missed: self.missed,
             longest: if longer { text.len() } else { self.longest },
-        }
+        })
     }
 
     // The same of the first n bytes.
-    fn part(self, text: &[u8], n: usize, number: u64, place: u64) -> Tally {
+    fn part(
+        self,
+        out: &impl Print,
+        text: &[u8],
+        n: usize,
+        number: u64,
+        place: u64,
+    ) -> io::Result<Tally> {
         let k = no_more(text, n);
-        self.edge(&text[..k], number, place)
+        self.edge(out, &text[..k], number, place)
     }
 
-    fn part_of(self, text: &Text, n: usize, number: u64, place: u64) -> Tally {
-        self.part(text, n, number, place)
+    fn part_of(
+        self,
+        out: &impl Print,
+        text: &Text,
+        n: usize,
+        number: u64,
+        place: u64,
+    ) -> io::Result<Tally> {
+        self.part(out, text, n, number, place)
     }
 }
 
@@ -264,7 +273,7 @@ impl Line {
 }
 
 // Tries the edges of a table.
-fn try_all(table: &[u8]) -> Tally {
+fn try_all(out: &impl Print, table: &[u8]) -> io::Result<Tally> {
     let mut text = [0u8; 4200];
     let mut t = Tally {
         tried: 0,
@@ -276,24 +285,22 @@ fn try_all(table: &[u8]) -> Tally {
         let b = table[i];
         if b == b'\n' {
             if l.mode == TEXT {
-                t = t.part_of(&text, l.end, l.number, l.place);
+                t = t.part_of(out, &text, l.end, l.number, l.place)?;
             }
             l = Line::new();
         } else {
             l = l.step(&mut text, b);
         }
     }
-    t
+    Ok(t)
 }
 
-fn main() {
+fn main(rt: HostRuntime) -> io::Result<()> {
     let mut table = [0u8; 8192];
-    let n = io::read_full(STDIN_FILENO, &mut table);
-    let t = try_all(&table[..n]);
-    io::print_decimal(STDOUT_FILENO, t.tried);
-    io::write_all(STDOUT_FILENO, b" edges, missed ");
-    io::print_decimal(STDOUT_FILENO, t.missed);
-    io::write_all(STDOUT_FILENO, b", longest accepted ");
-    io::print_decimal(STDOUT_FILENO, t.longest as u64);
-    io::write_all(STDOUT_FILENO, b"\n");
+    let n = streams::read_full(&mut rt.stdin(), &mut table)?;
+    let t = try_all(&rt, &table[..n])?;
+    println!(rt;
+        "{} edges, missed {}, longest accepted {}",
+        t.tried, t.missed, t.longest
+    )
 }

@@ -4,30 +4,32 @@
 ghost use Rattle.std.specs.Prelude.{◌≤◌, length};
 
 use fleet_text::Form;
+use std::env::Env;
+use std::io;
 use text::Text;
 
-fn main() {
+fn main(rt: HostRuntime) -> io::Result<()> {
     let mut arg = [0u8; 16];
-    let k = os::arg(1, &mut arg);
+    let k = rt.arg(1, &mut arg).unwrap_or(0);
     let times = number(&arg[..k]);
     let mut job = [0u8; 16];
-    let j = os::arg(2, &mut job);
+    let j = rt.arg(2, &mut job).unwrap_or(0);
     let mut input = [0u8; 102401];
-    let n = io::read_full(0, &mut input);
+    let n = streams::read_full(&mut rt.stdin(), &mut input)?;
     let t = answer(&job[..j], &input[..n], times);
     let bytes = t.bytes;
     let len = t.len;
-    io::write_all(1, &bytes[..len]);
+    rt.write_all(&bytes[..len])
 }
 
 // What the job prints: `numbers` makes pages of a flat slice of numbers, `boats` pages of a slice of structs; `rate`, and no job, are ratings.
 fn answer(job: &[u8], input: &[u8], times: u64) -> Text
     ensures { result.len ≤ length result.bytes }
 {
-    if check::same(job, b"numbers") {
+    if job == b"numbers".as_slice() {
         return fleet_text::answer_after(input, Form::Numbers, times);
     }
-    if check::same(job, b"boats") {
+    if job == b"boats".as_slice() {
         return fleet_text::answer_after(input, Form::Structs, times);
     }
     text::answer_after(input, times)

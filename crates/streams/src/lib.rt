@@ -32,3 +32,71 @@ pub fn read_full<R: Read>(stream: &mut R, bytes: &mut [u8]) -> io::Result<usize>
     }
     Err(io::Error::from(ErrorKind::TimedOut))
 }
+
+#[cfg(test)]
+mod tests {
+    use super::*;
+    use std::test::Fail;
+
+    // Gives a byte at each read, is interrupted at the second, and fails at the fourth.
+    #[derive(Drop)]
+    struct Broken {
+        reads: u8,
+    }
+
+    impl Read for Broken {
+        fn read(&mut self, buf: &mut [u8]) -> io::Result<usize> {
+            if 3 <= self.reads || buf.is_empty() {
+                return Err(io::Error::from(ErrorKind::BrokenPipe));
+            }
+            self.reads += 1;
+            if self.reads == 2 {
+                return Err(io::Error::from(ErrorKind::Interrupted));
+            }
+            buf[0] = self.reads;
+            Ok(1)
+        }
+    }
+
+    #[test]
+    fn to_the_end(rt: HostRuntime) -> Result<(), Fail> {
+        let mut stream = b"abc".as_slice();
+        let mut bytes = [0u8; 5];
+        let n = read_full(&mut stream, &mut bytes)?;
+        assert_eq!(rt; n, 3);
+        assert_eq!(rt; bytes, [97, 98, 99, 0, 0]);
+        Ok(())
+    }
+
+    #[test]
+    fn until_full(rt: HostRuntime) -> Result<(), Fail> {
+        let mut stream = b"abc".as_slice();
+        let mut bytes = [0u8; 2];
+        let n = read_full(&mut stream, &mut bytes)?;
+        assert_eq!(rt; n, 2);
+        assert_eq!(rt; bytes, [97, 98]);
+        assert_eq!(rt; stream, b"c".as_slice());
+        Ok(())
+    }
+
+    #[test]
+    fn a_byte_at_a_time(rt: HostRuntime) -> Result<(), Fail> {
+        let mut stream = Broken { reads: 0 };
+        let mut bytes = [0u8; 2];
+        let n = read_full(&mut stream, &mut bytes)?;
+        assert_eq!(rt; n, 2);
+        assert_eq!(rt; bytes, [1, 3]);
+        Ok(())
+    }
+
+    #[test]
+    fn a_failed_read_is_no_end(rt: HostRuntime) -> Result<(), Fail> {
+        let mut stream = Broken { reads: 0 };
+        let mut bytes = [0u8; 3];
+        match read_full(&mut stream, &mut bytes) {
+            Ok(_) => assert!(rt; false),
+            Err(e) => assert!(rt; e.kind() == ErrorKind::BrokenPipe),
+        }
+        Ok(())
+    }
+}

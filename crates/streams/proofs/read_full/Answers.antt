@@ -27,12 +27,15 @@ loop-preserved g c =
     let within = c.loop.invariant.1 in
     let front = take-put_mid_below _ _ _ _ _ (le_refl _) within in
     elim c.match-read.branch [
-      in-Ok w ↦
-        let n = w.in-Ok.n in
-        let part = put from room n c.loop.bytes c.read.new.buf within w.in-Ok.ensures.bound.0 in
-        let whole = joined from (from + n) c.loop.bytes (put_mid from room c.loop.bytes c.read.new.buf) (omega arith) front in
-        (search rules, search rules, rw w.at-is (subst (Consumes _ _) (ap (λ l. take from c.loop.bytes ++ l) (sym part) ∙ whole)
-        (Consumes-trans _ _ _ _ _ c.loop.invariant.2 w.in-Ok.ensures.bytes.0)))
-    | in-Err+else-ne w ↦
-        (search rules, search rules, rw w.at-is (subst (Consumes _ _) (sym front) (Consumes-kept _ _ _ _ c.loop.invariant.2 w.in-Err.ensures.bytes)))
+      | in-Ok w ↦
+          let n = w.in-Ok.n in
+          let part = put from room n c.loop.bytes c.read.new.buf within w.in-Ok.ensures.bound.0 in
+          let whole = joined from (from + n) c.loop.bytes (put_mid from room c.loop.bytes c.read.new.buf) (omega arith) front in (
+            search rules,
+            search rules,
+            rw w.at-is (subst (Consumes _ _) (ap (λ l. take from c.loop.bytes ++ l) (sym part) ∙ whole)
+                (Consumes-trans _ _ _ _ _ c.loop.invariant.2 w.in-Ok.ensures.bytes.0)),
+          )
+      | in-Err+else-ne w ↦
+          (search rules, search rules, rw w.at-is (subst (Consumes _ _) (sym front) (Consumes-kept _ _ _ _ c.loop.invariant.2 w.in-Err.ensures.bytes)))
     ]
