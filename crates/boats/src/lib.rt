@@ -91,7 +91,7 @@ pub fn of_numbers(engine: Engine, numbers: &[i64]) -> Counted
     pages::counted(engine, count, sum)
 }
 
-// The boat at k, from 0. This routine and `of_boats`, which hold a lent slice of structs, are proved by hand: whatever takes values is elsewhere.
+// The boat at k, from 0.
 fn boat_at(boats: &[Boat], k: usize) -> Boat
     requires { k < length boats.now }
     ensures { result ≡ get_or boats.now k no_boat }

@@ -1,5 +1,4 @@
--- Laws of the readers and of both forms of the list, the parts of the answer, and arrays of structs lent as slices
-pub mod Front
+-- Laws of the readers and of both forms of the list, and the parts of the answer
 pub mod Reading
 pub mod Flat
 pub mod Answering

@@ -8,7 +8,7 @@ use super::Form;
 use boats::{Boat, Counted};
 use engine::Engine;
 
-// The page of the first `count` boats, lent as structs. This routine holds a slice of structs and is proved by hand.
+// The page of the first `count` boats, lent as structs.
 fn of_structs(engine: Engine, boats: [Boat; 1000], count: usize) -> Counted
     requires { count ≤ 1000 }
     ensures { result ≡ fleet_of engine (numbers_of (take count boats)) }
