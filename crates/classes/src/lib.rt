@@ -219,8 +219,7 @@ impl Classes {
     }
 }
 
-// The page of a lent list of boats. A routine that holds a lent slice of structs is proved by hand: so this one has no branch, and the class is tested by what
-// makes the answer.
+// The page of a lent list of boats: the class is tested by what makes the answer.
 pub fn fleet_of_boats(class: u64, classes: Classes, boats: &[Boat]) -> ClassFleet
     ensures { result ≡ class_fleet classes class (numbers_of boats.now) }
 {
