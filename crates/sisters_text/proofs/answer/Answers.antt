@@ -1,0 +1,6 @@
+-- `sisters_text::answer` meets its contract: what is put into the zeros is the written text. Assumes nothing.
+use Rattle.text.proofs.Writing.{put_written}
+use Rattle.sisters_text.proofs.answer.Goals as goal
+
+pub returns : goal.returns
+returns c = put_written _ _ c.output-len.ensures
