@@ -117,7 +117,7 @@ pub(crate) fn mulc(t: &mut [i32; 1280], s: &mut [u8; 128], i: usize, c: i64, k: 
     settle(t, s, k, v, e, p, b, g)
 }
 
-// V_j.E_i.
+// V_j·E_i.
 fn weighted_spectrum(t: &[i32; 1280], i: usize, j: usize) -> Range
     requires i_bound { i < 64 }
     requires j_bound { j < 64 }

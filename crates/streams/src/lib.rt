@@ -6,7 +6,7 @@ ghost use Rattle.std.specs.Io.{ReadsAtMost};
 ghost use Rattle.std.specs.Io.KnownBytes.{Consumes, IsAtEnd};
 
 use std::io;
-use std::io::{ErrorKind, Read};
+use std::io::Read;
 
 // Reads until the bytes are full or the stream ends, and gives how many it put at their front.
 pub fn read_full<R: Read>(stream: &mut R, bytes: &mut [u8]) -> io::Result<usize>
@@ -16,29 +16,23 @@ pub fn read_full<R: Read>(stream: &mut R, bytes: &mut [u8]) -> io::Result<usize>
     ensures end { IfOk result (λ n. n < length bytes.new → IsAtEnd (R.remaining stream.new)) }
 {
     let mut at = 0;
-    for _ in 0..u64::MAX {
-        if bytes.len() <= at {
-            return Ok(at);
-        }
+    while at < bytes.len() {
         match stream.read(&mut bytes[at..]) {
             Ok(0) => return Ok(at),
             Ok(n) => at += n,
-            Err(e) => {
-                if e.kind() != ErrorKind::Interrupted {
-                    return Err(e);
-                }
-            }
+            Err(e) => return Err(e),
         }
     }
-    Err(io::Error::from(ErrorKind::TimedOut))
+    Ok(at)
 }
 
 #[cfg(test)]
 mod tests {
     use super::*;
+    use std::io::ErrorKind;
     use std::test::Fail;
 
-    // Gives a byte at each read, is interrupted at the second, and fails at the fourth.
+    // Gives a byte at each read, and fails at the third.
     #[derive(Drop)]
     struct Broken {
         reads: u8,
@@ -46,13 +40,10 @@ mod tests {
 
     impl Read for Broken {
         fn read(&mut self, buf: &mut [u8]) -> io::Result<usize> {
-            if 3 <= self.reads || buf.is_empty() {
+            if 2 <= self.reads || buf.is_empty() {
                 return Err(io::Error::from(ErrorKind::BrokenPipe));
             }
             self.reads += 1;
-            if self.reads == 2 {
-                return Err(io::Error::from(ErrorKind::Interrupted));
-            }
             buf[0] = self.reads;
             Ok(1)
         }
@@ -85,7 +76,7 @@ mod tests {
         let mut bytes = [0u8; 2];
         let n = read_full(&mut stream, &mut bytes)?;
         assert_eq!(rt; n, 2);
-        assert_eq!(rt; bytes, [1, 3]);
+        assert_eq!(rt; bytes, [1, 2]);
         Ok(())
     }
 

@@ -1,11 +1,10 @@
 use Rattle.std.proofs.Common.{rules, arith, ◌≡◌, ℕ, ◌+◌, ◌-◌, ◌≤◌, List, ◌++◌, length, take, slice_range, sym, ap, ◌∙◌, subst, le_refl, drop_at, length-take-le}
 use Rattle.std.proofs.lemmas.Slice.{take-put_mid_below}
 use Rattle.std.specs.Io.KnownBytes.{Consumes}
-use Rattle.std.proofs.KnownBytes.{Consumes-trans, Consumes-kept}
+use Rattle.std.proofs.KnownBytes.{Consumes-trans}
 use borrow.Rule.Slice.PartMut.{put_mid, post_of}
 use lib.Seq.{take-add, take-append-le}
 use Rattle.streams.proofs.read_full.Goals as goal
-use Rattle.streams.proofs.read_full.Goals.{in-Ok, in-Err+else-ne}
 
 -- What stands up to a, and what was put from there up to b, is what stands up to b
 joined : (a b : ℕ) (old new : List ℕ) → a ≤ b → take a new ≡ take a old → take a old ++ slice_range new a b ≡ take b new
@@ -20,22 +19,17 @@ put a k n xs ys within fits =
     let after = post_of a k xs in
     ap (take ((a + n) - a)) (drop_at (take a xs) (ys ++ after) a (length-take-le a xs within)) ∙ ap (λ m. take m (ys ++ after)) same ∙ take-append-le n ys after fits
 
-pub loop-preserved : goal.loop-preserved
-loop-preserved g c =
-    let from = c.loop.at in
-    let room = length c.loop.bytes - from in
-    let within = c.loop.invariant.1 in
+pub loop-at-preserved : goal.loop-at-preserved
+loop-at-preserved g c =
+    let from = c.loop-at.at in
+    let n = c.in-Ok.n in
+    let room = length c.loop-at.bytes - from in
+    let within = c.loop-at.invariant.1 in
     let front = take-put_mid_below _ _ _ _ _ (le_refl _) within in
-    elim c.match-read.branch [
-      | in-Ok w ↦
-          let n = w.in-Ok.n in
-          let part = put from room n c.loop.bytes c.read.new.buf within w.in-Ok.ensures.bound.0 in
-          let whole = joined from (from + n) c.loop.bytes (put_mid from room c.loop.bytes c.read.new.buf) (omega arith) front in (
-            search rules,
-            search rules,
-            rw w.at-is (subst (Consumes _ _) (ap (λ l. take from c.loop.bytes ++ l) (sym part) ∙ whole)
-                (Consumes-trans _ _ _ _ _ c.loop.invariant.2 w.in-Ok.ensures.bytes.0)),
-          )
-      | in-Err+else-ne w ↦
-          (search rules, search rules, rw w.at-is (subst (Consumes _ _) (sym front) (Consumes-kept _ _ _ _ c.loop.invariant.2 w.in-Err.ensures.bytes)))
-    ]
+    let part = put from room n c.loop-at.bytes c.read.new.buf within c.in-Ok.ensures.bound.0 in
+    let whole = joined from (from + n) c.loop-at.bytes (put_mid from room c.loop-at.bytes c.read.new.buf) (omega arith) front in (
+      search rules,
+      search rules,
+      subst (Consumes _ _) (ap (λ l. take from c.loop-at.bytes ++ l) (sym part) ∙ whole)
+          (Consumes-trans _ _ _ _ _ c.loop-at.invariant.2 c.in-Ok.ensures.bytes.0),
+    )
