@@ -18,9 +18,9 @@ use Rattle.range.specs.Sums.{at}
 use Rattle.range.proofs.Valid.{T_true}
 use Rattle.rules.specs.declared.Refusal as rules
 use Rattle.rules.specs.declared.Refusal.TheVariants.{NoCodelist, RangeCount, BadRange, Divisor, Overflow}
-use Rattle.rules.specs.declared.Outcome as rating
+use Rattle.rules.specs.InFull as rating
 use Rattle.rules.specs.declared.Limits.{Limits}
-use Rattle.rules.specs.declared.Rating.{Rating}
+use Rattle.rules.specs.InFull.{Rating}
 use Rattle.rules.specs.Rate.{rated, refused, pairs, first_bad}
 use Rattle.rules.specs.Refused.{Runnable, RefusedFor}
 use Rattle.rules.specs.Figures.{ends}
@@ -96,7 +96,7 @@ module _ (e : Engine) (xs : List ℤ) (d : ℤ) where
       ∙ ap (λ n. answer_of (parts_of (nat_abs d) e.codelist (pairs xs) n)) (none-bad 1 (pairs xs) (ready t).valid)
 
   module _ (i : IsDepth d) (t : Runnable e.codelist xs) (r : rules.Refusal) where
-    part-refused : ((parts (nat_abs d) e.codelist (pairs xs)).outcome ≡ rating.TheVariants.Refused r)
+    part-refused : ((parts (nat_abs d) e.codelist (pairs xs)).outcome ≡ rating.Refused r)
         ↔ FirstRefused e.codelist (leaves (nat_abs d) (pairs xs)) r
     part-refused =
         let ls = leaves (nat_abs d) (pairs xs) in

@@ -9,9 +9,9 @@ use lib.IntN.{ℤ, pos, nat_abs}
 use lib.Signed.{le_z_yes}
 use Rattle.codelist.specs.declared.Year.TheVariants.{Y2016, Y2014}
 use Rattle.rules.specs.declared.Refusal as rules
-use Rattle.rules.specs.declared.Outcome as rating
+use Rattle.rules.specs.InFull as rating
 use Rattle.rules.specs.declared.Limits.{Limits}
-use Rattle.rules.specs.declared.Rating.{Rating}
+use Rattle.rules.specs.InFull.{Rating}
 use Rattle.rules.specs.Rate.{rated, refused, pairs, rate_ranges, rate_of}
 use Rattle.rules.specs.Refused.{Runnable}
 use Rattle.rules.specs.Exact.{Point, Jet, premium_of}
@@ -25,15 +25,15 @@ use Rattle.rules.proofs.Years.{nested, not_lifted, all-bent}
 use Rattle.rules.proofs.Vanishing.{vanishing}
 use Rattle.rules.proofs.SameSets.{same-sets}
 use Rattle.engine.specs.declared.Engine.{Engine}
-use Rattle.engine.specs.declared.Outcome as engine
+use Rattle.engine.specs.InFull as engine
 use Rattle.engine.specs.declared.Refusal as engine-refusal
 use Rattle.engine.specs.Engine as Engine
 use Rattle.engine.specs.Engine.{rated_of}
 use Rattle.engine.proofs.Validity.{Valid}
 use Rattle.bisection.specs.declared.Refusal.{Refusal}
 use Rattle.bisection.specs.declared.Refusal.TheVariants.{Rate}
-use Rattle.bisection.specs.declared.Outcome.TheVariants.{Accepted, Refused}
-use Rattle.bisection.specs.declared.Bisected.{Bisected}
+use Rattle.bisection.specs.InFull.{Accepted, Refused}
+use Rattle.bisection.specs.InFull.{Bisected}
 use Rattle.bisection.specs.Cut.{parts, leaves, together, outcome_of, answer_of, cut_of}
 use Rattle.bisection.specs.Promises.{IsDepth, CutRefusedFor, AsRated, CutSound}
 use Rattle.bisection.proofs.Widths.{widest-is, all-narrow}
@@ -84,14 +84,14 @@ as-rated e xs d h = record {
     o : (cut_of e xs d).outcome ≡ outcome_of (rate_of e.codelist xs).outcome
     o = ap (λ (b : Bisected). b.outcome) h
 
-    acc : (u : rating.Outcome) → (outcome_of u ≡ Accepted) ↔ (Engine.outcome_of u ≡ engine.TheVariants.Accepted)
-    acc rating.TheVariants.Rated = (λ a. refl, λ a. refl)
-    acc (rating.TheVariants.Refused r) = (λ a. not-both (sym a), λ a. let z : ◌≡◌ {A = ℕ} 0 1 = cc in let f : ⊥ = omega arith in absurd f)
+    acc : (u : rating.Outcome) → (outcome_of u ≡ Accepted) ↔ (Engine.outcome_of u ≡ engine.Accepted)
+    acc rating.Rated = (λ a. refl, λ a. refl)
+    acc (rating.Refused r) = (λ a. not-both (sym a), λ a. let z : ◌≡◌ {A = ℕ} 0 1 = cc in let f : ⊥ = omega arith in absurd f)
 
     ref : (u : rating.Outcome) (r : rules.Refusal) → (outcome_of u ≡ Refused (Rate r))
-        ↔ (Engine.outcome_of u ≡ engine.TheVariants.Refused (engine-refusal.TheVariants.Rate r))
-    ref rating.TheVariants.Rated r = (λ a. not-both a, λ a. let z : ◌≡◌ {A = ℕ} 0 1 = cc in let f : ⊥ = omega arith in absurd f)
-    ref (rating.TheVariants.Refused q) r = (λ a. let s : q ≡ r = cc in rw s, λ a. let s : q ≡ r = cc in rw s)
+        ↔ (Engine.outcome_of u ≡ engine.Refused (engine-refusal.TheVariants.Rate r))
+    ref rating.Rated r = (λ a. not-both a, λ a. let z : ◌≡◌ {A = ℕ} 0 1 = cc in let f : ⊥ = omega arith in absurd f)
+    ref (rating.Refused q) r = (λ a. let s : q ≡ r = cc in rw s, λ a. let s : q ≡ r = cc in rw s)
 
 -- ---- what each answer says
 module _ (e : Engine) (xs : List ℤ) (d : ℤ) where

@@ -18,7 +18,7 @@ use Rattle.rules.specs.Rate.{rated, pairs, rate_ranges}
 use Rattle.rules.specs.Isotone.{NarrowerLimits}
 use Rattle.rules.proofs.Isotone.{ranges-isotone}
 use Rattle.engine.proofs.Validity as Validity
-use Rattle.bisection.specs.declared.Bisected.{Bisected}
+use Rattle.bisection.specs.InFull.{Bisected}
 use Rattle.bisection.specs.Cut.{hull_limits, hulled, narrow, lower_part, upper_part, parts, answer_of, cut_of}
 use Rattle.bisection.specs.Promises.{PartOf, IsDepth}
 use Rattle.bisection.specs.Deeper.{NotWidened, DeeperCut, CutInsidePlain}

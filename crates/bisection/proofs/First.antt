@@ -6,9 +6,9 @@ use mathlib.Core.Logic.{◌⊎◌, inl, inr, ◌↔◌, ⊎_elim}
 use Prim.Native.Nat.{ℕ}
 use native.Mathlib.Omega.{arith}
 use Rattle.rules.specs.declared.Refusal.{Refusal}
-use Rattle.rules.specs.declared.Outcome.{Outcome}
-use Rattle.rules.specs.declared.Outcome.TheVariants.{Rated, Refused}
-use Rattle.rules.specs.declared.Rating.{Rating}
+use Rattle.rules.specs.InFull.{Outcome}
+use Rattle.rules.specs.InFull.{Rated, Refused}
+use Rattle.rules.specs.InFull.{Rating}
 use Rattle.bisection.specs.Cut.{hulled_by, hulled, together}
 
 -- the outcome of a hull

@@ -9,10 +9,10 @@ use Rattle.codelist.specs.declared.Codelist.{Codelist}
 use Rattle.range.specs.declared.Range.{Range}
 use Rattle.range.specs.Arithmetic.{ends_hull}
 use Rattle.range.specs.Sums.{at}
-use Rattle.rules.specs.declared.Outcome.{Outcome}
-use Rattle.rules.specs.declared.Outcome.TheVariants.{Rated, Refused}
+use Rattle.rules.specs.InFull.{Outcome}
+use Rattle.rules.specs.InFull.{Rated, Refused}
 use Rattle.rules.specs.declared.Limits.{Limits}
-use Rattle.rules.specs.declared.Rating.{Rating}
+use Rattle.rules.specs.InFull.{Rating}
 use Rattle.rules.specs.Rate.{rated, rate_ranges}
 use Rattle.bisection.specs.Cut.{hull_limits, hulled_by, hulled, narrow, lower_part, upper_part, parts, leaves, together}
 use Rattle.bisection.specs.Promises.{plain}

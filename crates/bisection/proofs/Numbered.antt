@@ -8,7 +8,7 @@ use Rattle.rules.specs.declared.Refusal as rules
 use Rattle.engine.specs.declared.Engine.{Engine}
 use Rattle.bisection.specs.declared.Refusal.{Refusal}
 use Rattle.bisection.specs.declared.Refusal.TheVariants.{Depth, Rate}
-use Rattle.bisection.specs.declared.Outcome.TheVariants.{Refused}
+use Rattle.bisection.specs.InFull.{Refused}
 use Rattle.bisection.specs.Cut.{number_of, place_of, cut_numbers, cut_of}
 use Rattle.bisection.specs.Promises.{CutRefusedFor, RefusedWith, CutTable, no-codelist, depth, count, range, divisor, overflow}
 

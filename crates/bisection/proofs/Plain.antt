@@ -14,7 +14,7 @@ use Rattle.range.specs.declared.Range.{Range}
 use Rattle.range.specs.Limit.{is_valid}
 use Rattle.range.proofs.Valid.{T_true}
 use Rattle.rules.specs.declared.Limits.{Limits}
-use Rattle.rules.specs.declared.Rating.{Rating}
+use Rattle.rules.specs.InFull.{Rating}
 use Rattle.rules.specs.Rate.{limits_of, rated, pairs, first_bad, rate_ranges, rate_of}
 use Rattle.rules.specs.Exact.{Point}
 use Rattle.rules.specs.Promises.{Sound, Shaped}

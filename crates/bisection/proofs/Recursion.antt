@@ -1,20 +1,19 @@
 -- What holds of the limits of the parts, hulled: `parts-fine`, by induction over the depth. Assumes nothing.
-use mathlib.Core.Path.{◌≡◌, refl, sym, ap, subst, ◌∙◌}
-use mathlib.Core.Bool.{Bool, true, false, cond, ◌||◌}
+use mathlib.Core.Path.{◌≡◌, refl, sym, ap, ap₂, subst, ◌∙◌}
+use mathlib.Core.Bool.{Bool, true, false, cond}
 use mathlib.Core.List.{List}
 use mathlib.Core.Logic.{◌⊎◌, inl, inr}
 use Prim.Native.Nat.{ℕ, zero, suc, ◌-◌, ◌≤◌}
 use native.Mathlib.Omega.{arith}
-use borrow.Author.Tests.{ne_eqb}
-use lib.Dec.{eqb}
 use lib.IntN.{ℤ}
 use Rattle.codelist.specs.declared.Codelist.{Codelist}
 use Rattle.range.specs.declared.Range.{Range}
-use Rattle.rules.specs.declared.Outcome.{Outcome}
-use Rattle.rules.specs.declared.Outcome.TheVariants.{Rated, Refused}
+use Rattle.rules.specs.InFull.{Outcome}
+use Rattle.rules.specs.InFull.{Rated, Refused}
 use Rattle.rules.specs.declared.Limits.{Limits}
-use Rattle.rules.specs.declared.Rating.{Rating}
-use Rattle.rules.specs.Rate.{rated, rate_ranges, rate_of}
+use Rattle.rules.specs.InFull.{Rating}
+use Rattle.rules.specs.declared.Refusal.{Refusal}
+use Rattle.rules.specs.Rate.{rated, refused, rate_ranges, rate_of}
 use Rattle.rules.specs.Exact.{Point}
 use Rattle.rules.specs.Promises.{Sound, Shaped}
 use Rattle.rules.specs.Figures.{ends}
@@ -34,21 +33,30 @@ unfolding parts
 narrow-parts zero c rs w = refl
 narrow-parts (suc d) c rs w = rw w
 
--- as the code tests: plain rating at depth 0, or where the widest range is narrow
-pub whole_parts : (d : ℕ) (c : Codelist) (rs : List Range) → (eqb d 0 || narrow rs) ≡ true → parts d c rs ≡ rate_ranges c rs 0
+pub zero_parts : (d : ℕ) (c : Codelist) (rs : List Range) → d ≡ 0 → parts d c rs ≡ rate_ranges c rs 0
 unfolding parts
-whole_parts zero c rs w = refl
-whole_parts (suc d) c rs w = let w : narrow rs ≡ true = rw (ne_eqb (suc d) 0 (λ e. omega arith)) at w in rw w
+zero_parts zero c rs z = refl
+zero_parts (suc d) c rs z = absurd (omega (arith, z))
 
-pub neither : (a b : Bool) → (a || b) ≡ false → (a ≡ false) × (b ≡ false)
-neither true b e = (e, absurd (let z : ◌≡◌ {A = ℕ} 0 1 = cc in omega arith))
-neither false b e = (refl, e)
+module _ (d : ℕ) (c : Codelist) (rs : List Range) (deep : ¬ (d ≡ 0)) (wide : narrow rs ≡ false) where
+  cut_parts : parts d c rs ≡ hulled (parts (d - 1) c (lower_part rs)) (parts (d - 1) c (upper_part rs))
+  unfolding parts
+  cut_parts = go d deep
+    where
+      go : (d : ℕ) → ¬ (d ≡ 0) → parts d c rs ≡ hulled (parts (d - 1) c (lower_part rs)) (parts (d - 1) c (upper_part rs))
+      go zero z = absurd (z refl)
+      go (suc d) z = let e : suc d - 1 ≡ d = omega arith in rw (wide, e)
 
-pub cut_parts : (d : ℕ) (c : Codelist) (rs : List Range) → (eqb d 0 || narrow rs) ≡ false
-    → parts d c rs ≡ hulled (parts (d - 1) c (lower_part rs)) (parts (d - 1) c (upper_part rs))
-unfolding parts
-cut_parts zero c rs w = absurd (let z : ◌≡◌ {A = ℕ} 0 1 = cc in omega arith)
-cut_parts (suc d) c rs w = let e : suc d - 1 ≡ d = omega arith in rw ((neither (eqb (suc d) 0) (narrow rs) w).1, e)
+  -- as the code goes on: a refusal of the lower half, else one of the upper half, else the hull
+  pub lower_refused : {r : Refusal} → refused r ≡ parts (d - 1) c (lower_part rs) → refused r ≡ parts d c rs
+  lower_refused p = ap (λ (x : Rating). hulled x (parts (d - 1) c (upper_part rs))) p ∙ sym cut_parts
+
+  module _ {l : Limits} (p : rated l ≡ parts (d - 1) c (lower_part rs)) where
+    pub upper_refused : {r : Refusal} → refused r ≡ parts (d - 1) c (upper_part rs) → refused r ≡ parts d c rs
+    upper_refused q = ap₂ hulled p q ∙ sym cut_parts
+
+    pub both_rated : {m : Limits} → rated m ≡ parts (d - 1) c (upper_part rs) → rated (hull_limits l m) ≡ parts d c rs
+    both_rated q = ap₂ hulled p q ∙ sym cut_parts
 
 -- ---- which hulls are limits
 pub record Both (x y : Rating) (l : Limits) : Type 0 where

@@ -9,10 +9,10 @@ use lib.IntN.{ℤ}
 use Rattle.codelist.specs.declared.Codelist.{Codelist}
 use Rattle.range.specs.declared.Range.{Range}
 use Rattle.rules.specs.declared.Refusal.{Refusal}
-use Rattle.rules.specs.declared.Outcome.{Outcome}
-use Rattle.rules.specs.declared.Outcome.TheVariants.{Rated, Refused}
+use Rattle.rules.specs.InFull.{Outcome}
+use Rattle.rules.specs.InFull.{Rated, Refused}
 use Rattle.rules.specs.declared.Limits.{Limits}
-use Rattle.rules.specs.declared.Rating.{Rating}
+use Rattle.rules.specs.InFull.{Rating}
 use Rattle.rules.specs.Run.{Lines, through, stopped, lines_of}
 use Rattle.rules.specs.Rate.{rated, refused, finished, rate_ranges, rate_of}
 use Rattle.rules.specs.Refused.{RefusedFor}

@@ -1,6 +1,8 @@
 -- 02, request 6, "Classes cut finer": "Add rating to a depth of 0 to 6."
 use Rattle.std.specs.Prelude.{Bool, ◌&&◌, cond, List, [], ◌∷◌, ◌++◌, ℕ, zero, suc, ◌*◌, eqb, ℤ, pos, ◌+ℤ◌, ◌-ℤ◌, nat_abs, length, set}
 use Rattle.std.specs.Int.Signed.{lt_z, le_z}
+use Rattle.std.specs.declared.result.Result.{Result}
+use Rattle.std.specs.declared.result.Result.TheVariants.{Ok, Err}
 use Rattle.exact.specs.Div.{floor_div}
 use Rattle.codelist.specs.declared.Codelist.{Codelist}
 use Rattle.codelist.specs.Codelist.{ratable}
@@ -9,18 +11,18 @@ use Rattle.range.specs.Limit.{from_to}
 use Rattle.range.specs.Arithmetic.{ends_hull}
 use Rattle.range.specs.Sums.{at}
 use Rattle.rules.specs.declared.Refusal as rules
-use Rattle.rules.specs.declared.Outcome as rating
+use Rattle.rules.specs.InFull as rating
 use Rattle.rules.specs.declared.Limits.{Limits}
-use Rattle.rules.specs.declared.Rating.{Rating}
+use Rattle.rules.specs.InFull.{Rating}
 use Rattle.rules.specs.Table.{eight}
 use Rattle.rules.specs.Rate as Rate
 use Rattle.rules.specs.Rate.{rated, refused, no_limits, pairs, first_bad, rate_ranges}
 use Rattle.engine.specs.declared.Engine.{Engine}
 use Rattle.bisection.specs.declared.Refusal.{Refusal}
 use Rattle.bisection.specs.declared.Refusal.TheVariants as refusal
-use Rattle.bisection.specs.declared.Outcome.{Outcome}
-use Rattle.bisection.specs.declared.Outcome.TheVariants.{Accepted, Refused}
-use Rattle.bisection.specs.declared.Bisected.{Bisected}
+use Rattle.bisection.specs.InFull.{Outcome}
+use Rattle.bisection.specs.InFull.{Accepted, Refused}
+use Rattle.bisection.specs.InFull.{Bisected}
 
 -- ════ the cut ════
 
@@ -71,9 +73,9 @@ hull_limits l m = record {
 
 -- "A refusal of the lower half comes before one of the upper."
 abbrev pub hulled_by : rating.Outcome → Limits → rating.Outcome → Limits → Rating
-hulled_by (rating.TheVariants.Refused r) l o m = refused r
-hulled_by rating.TheVariants.Rated l (rating.TheVariants.Refused r) m = refused r
-hulled_by rating.TheVariants.Rated l rating.TheVariants.Rated m = rated (hull_limits l m)
+hulled_by (rating.Refused r) l o m = refused r
+hulled_by rating.Rated l (rating.Refused r) m = refused r
+hulled_by rating.Rated l rating.Rated m = rated (hull_limits l m)
 
 abbrev pub hulled : Rating → Rating → Rating
 hulled x y = hulled_by x.outcome x.limits y.outcome y.limits
@@ -114,8 +116,8 @@ cut_numbers = 10 ∷ 16 ∷ 8 ∷ 9 ∷ 11 ∷ 12 ∷ []
 
 -- a rating of rules, as an answer of this crate
 abbrev pub outcome_of : rating.Outcome → Outcome
-outcome_of rating.TheVariants.Rated = Accepted
-outcome_of (rating.TheVariants.Refused r) = Refused (refusal.Rate r)
+outcome_of rating.Rated = Accepted
+outcome_of (rating.Refused r) = Refused (refusal.Rate r)
 
 abbrev pub answer_of : Rating → Bisected
 answer_of x = record { outcome = outcome_of x.outcome; limits = x.limits }
@@ -123,6 +125,11 @@ answer_of x = record { outcome = outcome_of x.outcome; limits = x.limits }
 -- a refusal: every other field is 0
 abbrev pub refused_with : Refusal → Bisected
 refused_with r = record { outcome = Refused r; limits = no_limits }
+
+-- the code's answer in full
+abbrev pub in_full : Result Limits Refusal → Bisected
+in_full (Ok l) = record { outcome = Accepted; limits = l }
+in_full (Err r) = refused_with r
 
 -- "a depth of 0 to 6"
 abbrev pub is_depth : ℤ → Bool

@@ -3,9 +3,9 @@ use Rattle.std.specs.Prelude.{◌≡◌, List, ℤ, pos, ◌≤ℤ◌}
 use Rattle.rules.specs.declared.Limits.{Limits}
 use Rattle.rules.specs.Isotone.{NarrowerLimits}
 use Rattle.engine.specs.declared.Engine.{Engine}
-use Rattle.engine.specs.declared.Outcome as engine
+use Rattle.engine.specs.InFull as engine
 use Rattle.engine.specs.Engine.{rated_of}
-use Rattle.bisection.specs.declared.Outcome.TheVariants.{Accepted}
+use Rattle.bisection.specs.InFull.{Accepted}
 use Rattle.bisection.specs.Cut.{cut_of}
 use Rattle.bisection.specs.Promises.{IsDepth}
 
@@ -22,4 +22,4 @@ DeeperCut =
 -- and none is wider than plain rating, which depth 0 is
 abbrev pub CutInsidePlain : Type 0
 CutInsidePlain =
-    (e : Engine) (xs : List ℤ) (m : ℤ) → IsDepth m → (rated_of e xs).outcome ≡ engine.TheVariants.Accepted → NotWidened e xs m (rated_of e xs).limits
+    (e : Engine) (xs : List ℤ) (m : ℤ) → IsDepth m → (rated_of e xs).outcome ≡ engine.Accepted → NotWidened e xs m (rated_of e xs).limits

@@ -22,8 +22,8 @@ use Rattle.rules.specs.Run.{row_of, inverts_zero, within, run_ops, factor_lines,
 use Rattle.rules.specs.Rate.{last, limits_of, no_limits, first_bad, rate_ranges}
 use Rattle.rules.specs.Figures.{◌to◌, −, ends}
 use Rattle.bisection.specs.declared.Refusal.TheVariants.{Depth, Rate}
-use Rattle.bisection.specs.declared.Outcome.{Outcome}
-use Rattle.bisection.specs.declared.Outcome.TheVariants.{Accepted, Refused}
+use Rattle.bisection.specs.InFull.{Outcome}
+use Rattle.bisection.specs.InFull.{Accepted, Refused}
 use Rattle.bisection.specs.Cut.{widest_from, widest, narrow, cut_point, lower_part, upper_part, hull_limits, parts, parts_of, counted_of, cut_of}
 
 -- a codelist's factors and operations, and the ranges of its factors

@@ -11,7 +11,7 @@ use Rattle.range.specs.Laws as Range
 use Rattle.range.specs.Sums.{at}
 use Rattle.rules.specs.declared.Refusal as rules
 use Rattle.rules.specs.declared.Limits.{Limits}
-use Rattle.rules.specs.declared.Rating.{Rating}
+use Rattle.rules.specs.InFull.{Rating}
 use Rattle.rules.specs.Formula.{given, sticky}
 use Rattle.rules.specs.Sets.{all_of}
 use Rattle.rules.specs.Table.{extended}
@@ -24,13 +24,13 @@ use Rattle.rules.specs.Years.{Nested, AllBent}
 use Rattle.rules.specs.SameSets.{SameSets}
 use Rattle.rules.specs.Figures.{ends}
 use Rattle.engine.specs.declared.Engine.{Engine}
-use Rattle.engine.specs.declared.Outcome as engine
+use Rattle.engine.specs.InFull as engine
 use Rattle.engine.specs.declared.Refusal as engine-refusal
 use Rattle.engine.specs.Engine.{rated_of}
 use Rattle.bisection.specs.declared.Refusal.{Refusal}
 use Rattle.bisection.specs.declared.Refusal.TheVariants.{Depth, Rate}
-use Rattle.bisection.specs.declared.Outcome.{Outcome}
-use Rattle.bisection.specs.declared.Outcome.TheVariants.{Accepted, Refused}
+use Rattle.bisection.specs.InFull.{Outcome}
+use Rattle.bisection.specs.InFull.{Accepted, Refused}
 use Rattle.bisection.specs.Cut.{width_of, widest, leaves, together, number_of, place_of, cut_numbers, answer_of, cut_of}
 
 -- ════ the cut ════
@@ -105,9 +105,9 @@ pub data CutTable (c : Codelist) (xs : List ℤ) (d : ℤ) : ℕ → ℕ → Typ
 
 -- the outcome and the limits are those of plain rating
 pub record AsRated (e : Engine) (xs : List ℤ) (d : ℤ) : Type 0 where
-  pub accepted : ((cut_of e xs d).outcome ≡ Accepted) ↔ ((rated_of e xs).outcome ≡ engine.TheVariants.Accepted)
+  pub accepted : ((cut_of e xs d).outcome ≡ Accepted) ↔ ((rated_of e xs).outcome ≡ engine.Accepted)
   pub refused : (r : rules.Refusal)
-      → ((cut_of e xs d).outcome ≡ Refused (Rate r)) ↔ ((rated_of e xs).outcome ≡ engine.TheVariants.Refused (engine-refusal.TheVariants.Rate r))
+      → ((cut_of e xs d).outcome ≡ Refused (Rate r)) ↔ ((rated_of e xs).outcome ≡ engine.Refused (engine-refusal.TheVariants.Rate r))
   pub limits : (cut_of e xs d).limits ≡ (rated_of e xs).limits
 
 pub record CutSound : Type 0 where

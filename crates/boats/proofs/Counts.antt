@@ -9,15 +9,15 @@ use lib.ListN.{length, take}
 use lib.Seq.{length-take-le}
 use Rattle.algebra.proofs.Int.{add-abs}
 use Rattle.codelist.specs.Codelist.{Ratable}
-use Rattle.rules.specs.declared.Outcome as rating
+use Rattle.rules.specs.InFull as rating
 use Rattle.rules.specs.declared.Refusal.TheVariants.{NoCodelist, RangeCount, BadRange, Divisor, Overflow}
 use Rattle.rules.specs.Rate.{rate_of}
 use Rattle.range.proofs.Fitting.{low-within, high-within}
 use Rattle.engine.specs.declared.Engine.{Engine}
-use Rattle.engine.specs.declared.Outcome.{Outcome}
-use Rattle.engine.specs.declared.Outcome.TheVariants.{Accepted, Refused}
+use Rattle.engine.specs.InFull.{Outcome}
+use Rattle.engine.specs.InFull.{Accepted, Refused}
 use Rattle.engine.specs.declared.Refusal.TheVariants.{Rate}
-use Rattle.engine.specs.declared.Rating.{Rating}
+use Rattle.engine.specs.InFull.{Rating}
 use Rattle.engine.specs.Engine.{outcome_of, rated_of}
 use Rattle.engine.proofs.Demands.{demands}
 use Rattle.boats.specs.Boats.{point, boat_rating, ratings_of}
@@ -31,12 +31,12 @@ use Rattle.boats.proofs.Adding.{rated-valid}
 -- ---- a boat of eight numbers is counted once
 once : (o : rating.Outcome) → ¬ (outcome_of o ≡ Refused (Rate NoCodelist)) → ¬ (outcome_of o ≡ Refused (Rate RangeCount))
     → one (accepts (outcome_of o)) + one (refuses 9 (outcome_of o)) + one (refuses 11 (outcome_of o)) + one (refuses 12 (outcome_of o)) ≡ 1
-once rating.TheVariants.Rated f g = refl
-once (rating.TheVariants.Refused NoCodelist) f g = absurd (f refl)
-once (rating.TheVariants.Refused RangeCount) f g = absurd (g refl)
-once (rating.TheVariants.Refused (BadRange a)) f g = refl
-once (rating.TheVariants.Refused (Divisor k)) f g = refl
-once (rating.TheVariants.Refused (Overflow k)) f g = refl
+once rating.Rated f g = refl
+once (rating.Refused NoCodelist) f g = absurd (f refl)
+once (rating.Refused RangeCount) f g = absurd (g refl)
+once (rating.Refused (BadRange a)) f g = refl
+once (rating.Refused (Divisor k)) f g = refl
+once (rating.Refused (Overflow k)) f g = refl
 
 module _ (e : Engine) (r : Ratable e.codelist) where
   boat-once : (b : List ℤ) → length b ≡ 8

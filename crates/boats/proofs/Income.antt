@@ -19,7 +19,7 @@ use Rattle.rules.specs.Rate.{pairs}
 use Rattle.rules.specs.Exact.{Jet, coordinate, premium_of}
 use Rattle.rules.specs.Promises.{Inside}
 use Rattle.engine.specs.declared.Engine.{Engine}
-use Rattle.engine.specs.declared.Outcome.TheVariants.{Accepted}
+use Rattle.engine.specs.InFull.{Accepted}
 use Rattle.engine.specs.Engine.{rated_of}
 use Rattle.engine.proofs.Demands.{demands}
 use Rattle.boats.specs.Boats.{doubled, point, boat_rating, ratings_of}

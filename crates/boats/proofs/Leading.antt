@@ -12,9 +12,9 @@ use lib.ListN.{length, get_or}
 use lib.Signed.{le_z, lt_z, ◌≤ℤ◌, ◌<ℤ◌}
 use Rattle.algebra.proofs.Int.{ints}
 use Rattle.exact.proofs.Machine.{lt_z-true, lt_z-false, ≤ℤ-le_z}
-use Rattle.engine.specs.declared.Outcome.{Outcome}
-use Rattle.engine.specs.declared.Outcome.TheVariants.{Accepted, Refused}
-use Rattle.engine.specs.declared.Rating.{Rating}
+use Rattle.engine.specs.InFull.{Outcome}
+use Rattle.engine.specs.InFull.{Accepted, Refused}
+use Rattle.engine.specs.InFull.{Rating}
 use Rattle.boats.specs.declared.totals.Sum.{Sum}
 use Rattle.boats.specs.Report.{all, position, accepts, is_accepted, high_end, at_most, leads}
 use Rattle.boats.specs.Promises.{First}
@@ -124,18 +124,18 @@ module _ (d : Rating) (rs : List Rating) where
                 let l : high_end (at k) ≤ℤ t = lt_z-false t (high_end (at k)) (rw (e, eqb-suc-zero n) at x) in
                 rw h (omega (ints, l, s))
 
-  best-outcome : (k : ℕ) (s : Sum) (o : Outcome) → (at k).outcome ≡ o → Best k s.greatest s.top
-      → Best (suc k) (with_outcome k s o (at k).limits.value).greatest (with_outcome k s o (at k).limits.value).top
+  best-outcome : (k : ℕ) (s : Sum) (o : Outcome) → (at k).outcome ≡ o → Best k s.report.greatest s.top
+      → Best (suc k) (with_outcome k s o (at k).limits.value).report.greatest (with_outcome k s o (at k).limits.value).top
   unfolding with_value with_number
   best-outcome k s Accepted e b = go (exceeds s (high_end (at k))) refl
     where
-      go : (x : Bool) → exceeds s (high_end (at k)) ≡ x → Best (suc k) (cond x (k + 1) s.greatest) (cond x (high_end (at k)) s.top)
-      go true h = best-more k s.greatest s.top b (ap accepts e) h
-      go false h = best-less k s.greatest s.top b (ap accepts e) h
-  best-outcome k s (Refused r) e b = best-refused k s.greatest s.top b (ap accepts e)
+      go : (x : Bool) → exceeds s (high_end (at k)) ≡ x → Best (suc k) (cond x (k + 1) s.report.greatest) (cond x (high_end (at k)) s.top)
+      go true h = best-more k s.report.greatest s.top b (ap accepts e) h
+      go false h = best-less k s.report.greatest s.top b (ap accepts e) h
+  best-outcome k s (Refused r) e b = best-refused k s.report.greatest s.top b (ap accepts e)
 
-  best-tallied : (us : List Rating) (k : ℕ) (s : Sum) → ((j : ℕ) → get_or us j d ≡ at (k + j)) → Best k s.greatest s.top
-      → Best (k + length us) (tallied k s us).greatest (tallied k s us).top
+  best-tallied : (us : List Rating) (k : ℕ) (s : Sum) → ((j : ℕ) → get_or us j d ≡ at (k + j)) → Best k s.report.greatest s.top
+      → Best (k + length us) (tallied k s us).report.greatest (tallied k s us).top
   unfolding tallied
   best-tallied [] k s same b = let e : k ≡ k + 0 = omega arith in rw (← e) b
   best-tallied (u ∷ us) k s same b =
@@ -146,7 +146,7 @@ module _ (d : Rating) (rs : List Rating) where
       rw (e, here) (best-tallied us (k + 1) (with_rating k s (at k)) (λ j. same (suc j) ∙ ap at (omega arith))
       (rw (← next) (best-outcome k s (at k).outcome refl b)))
 
-  pub best : Best (length rs) (tallied 0 start rs).greatest (tallied 0 start rs).top
+  pub best : Best (length rs) (tallied 0 start rs).report.greatest (tallied 0 start rs).top
   best =
       let e : length rs ≡ 0 + length rs = omega arith in
       rw e (best-tallied rs 0 start (λ j. ap at (omega arith)) (best-start _))

@@ -1,15 +1,16 @@
 -- Lists of numbers: each number twice, and arrays that are filled from the front. Assumes nothing.
 use mathlib.Core.Path.{◌≡◌, refl, ap, sym, ◌∙◌}
-use mathlib.Core.Bool.{Bool, true, false, cond}
+use mathlib.Core.Bool.{Bool, true, false}
 use mathlib.Core.List.{List, [], ◌∷◌, ◌++◌}
 use Prim.Native.Nat.{ℕ, zero, suc, ◌+◌, ◌*◌, ◌≤◌, ◌<◌}
 use native.Mathlib.Numerals.{add-one}
 use native.Mathlib.Omega.{arith}
-use borrow.Author.Tests.{ltb-false}
+use borrow.Author.Tests.{ltb-true, ltb-false}
 use lib.Dec.{ltb}
 use lib.IntN.{ℤ, pos}
 use lib.ListN.{length, get_or, take, drop, set, replicate, length-append, length-set}
-use lib.Seq.{take_all, take_at, take-suc, take-suc-set, length-take-le, sets-eq}
+use lib.Seq.{take_all, take_at, take-suc, length-take-le, sets-eq}
+use Rattle.std.specs.Prelude.{min}
 use Rattle.boats.specs.Boats.{doubled}
 
 -- ---- each number twice
@@ -26,12 +27,14 @@ length-doubled [] = refl
 length-doubled (x ∷ b) = omega (arith, length-doubled b)
 
 -- the ranges of n factors, of eight numbers
-pub ranges-taken : (n : ℕ) (b : List ℤ) → length b ≡ 8 → take (cond (ltb n 8) (2 * n) 16) (doubled b) ≡ doubled (take n b)
-ranges-taken n b e = go (ltb n 8) refl
+pub ranges-taken : (n : ℕ) (b : List ℤ) {m : ℕ} → length b ≡ 8 → m ≡ min (2 * n) 16 → take m (doubled b) ≡ doubled (take n b)
+ranges-taken n b {m} e h = go (ltb n 8) refl
   where
-    go : (t : Bool) → ltb n 8 ≡ t → take (cond t (2 * n) 16) (doubled b) ≡ doubled (take n b)
-    go true h = take-doubled n b
-    go false h = take_all 16 (doubled b) (omega (arith, length-doubled b)) ∙ sym (ap doubled (take_all n b (omega (arith, ltb-false n 8 h))))
+    go : (t : Bool) → ltb n 8 ≡ t → take m (doubled b) ≡ doubled (take n b)
+    go true l = let f : m ≡ 2 * n = omega (arith, h, ltb-true n 8 l) in rw f (take-doubled n b)
+    go false l =
+        let f : m ≡ 16 = omega (arith, h, ltb-false n 8 l) in
+        rw f (take_all 16 (doubled b) (omega (arith, length-doubled b))) ∙ sym (ap doubled (take_all n b (omega (arith, ltb-false n 8 l))))
 
 -- ---- filling an array from the front
 stored-two : (l : List ℤ) (i : ℕ) (x y : ℤ) → i + 2 ≤ length l → take (i + 2) (set (set l i x) (suc i) y) ≡ take i l ++ (x ∷ y ∷ [])
@@ -64,31 +67,3 @@ doubling-next b ends a {x} e h f d =
       same = rw (two, next) (stored-two ends (2 * a) x x (omega (arith, d.whole, h)))
           ∙ ap (λ (m : List ℤ). m ++ (x ∷ x ∷ [])) d.same ∙ sym (ap doubled more ∙ doubled-last (take a b) x);
     }
-
-pub doubling-end : (b ends : List ℤ) (a : ℕ) → length b ≡ 8 → 8 ≤ a → Doubling b ends a → ends ≡ doubled b
-doubling-end b ends a e h d =
-    sym (take_all (2 * a) ends (omega (arith, d.whole, h))) ∙ d.same ∙ ap doubled (take_all a b (omega (arith, e, h)))
-
--- the first a of eight numbers are those of the list
-pub record Copying (xs eight : List ℤ) (a : ℕ) : Type 0 where
-  pub whole : length eight ≡ 8
-  pub below : a ≤ 8
-  pub same : take a eight ≡ take a xs
-
-pub copying-start : (xs : List ℤ) → Copying xs (replicate 8 (pos 0)) 0
-copying-start xs = record { whole = refl; below = omega arith; same = refl }
-
-pub copying-next : (xs eight : List ℤ) (a : ℕ) {x : ℤ} → a < 8 → a < length xs → x ≡ get_or xs a (pos 0) → Copying xs eight a
-    → Copying xs (set eight a x) (a + 1)
-copying-next xs eight a {x} h l f c = record {
-  whole = length-set eight a x ∙ c.whole;
-  below = omega (arith, h);
-  same = rw (add-one a)
-      (take-suc-set eight a x (omega (arith, c.whole, h)) ∙ ap (λ (m : List ℤ). m ++ (x ∷ [])) c.same
-      ∙ sym (take-suc xs a (pos 0) l ∙ rw f));
-}
-
-pub copying-end : (xs eight : List ℤ) (a : ℕ) → 8 ≤ a → Copying xs eight a → eight ≡ take 8 xs
-copying-end xs eight a h c =
-    let e : a ≡ 8 = omega (arith, h, c.below) in
-    sym (take_all 8 eight (omega (arith, c.whole))) ∙ rw e at c.same

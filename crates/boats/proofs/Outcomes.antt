@@ -15,8 +15,8 @@ use Rattle.codelist.proofs.Ratable.{decides}
 use Rattle.boats.specs.declared.Report.{Report}
 use Rattle.boats.specs.declared.Refusal.{Refusal}
 use Rattle.boats.specs.declared.Refusal.TheVariants.{NoCodelist, Boats}
-use Rattle.boats.specs.declared.Outcome.TheVariants.{Reported, Refused}
-use Rattle.boats.specs.declared.Counted.{Counted}
+use Rattle.boats.specs.InFull.{Reported, Refused}
+use Rattle.boats.specs.InFull.{Counted}
 use Rattle.boats.specs.Fleet.{number_of, fleet_numbers, no_report, reported, refused}
 use Rattle.boats.specs.Promises.{RefusedFor, TooMany, NoRecords}
 use Rattle.boats.proofs.Leading.{clash}

@@ -1,28 +1,28 @@
 -- What is promised of the fleet page. Assumes nothing.
 use mathlib.Core.Path.{◌≡◌, refl, sym, ap, ap₂, ◌∙◌}
-use mathlib.Core.Bool.{Bool, true, false, ◌&&◌, cond}
+use mathlib.Core.Bool.{Bool, true, false, ◌&&◌}
 use mathlib.Core.List.{List, [], ◌∷◌, map}
 use mathlib.Core.Logic.{◌↔◌}
-use Prim.Native.Nat.{ℕ, zero, suc, ◌+◌, ◌/◌, ◌%◌, ◌≤◌, ◌<◌}
+use Prim.Native.Nat.{ℕ, zero, suc, ◌+◌, ◌%◌, ◌≤◌, ◌<◌}
 use native.Mathlib.Omega.{arith}
-use borrow.Author.Tests.{leb-true, le-leb, eq-eqb}
+use borrow.Author.Tests.{leb-true, le-leb}
 use lib.Dec.{leb, eqb}
 use lib.IntN.{ℤ, nat_abs}
 use lib.ListN.{length, get_or, take, length-map, get_or-map}
 use Rattle.codelist.specs.Codelist.{Ratable, ratable}
 use Rattle.codelist.proofs.Ratable.{decides}
 use Rattle.engine.specs.declared.Engine.{Engine}
-use Rattle.engine.specs.declared.Rating.{Rating}
+use Rattle.engine.specs.InFull.{Rating}
 use Rattle.engine.specs.Engine.{rated_of}
 use Rattle.boats.specs.declared.Report.{Report}
 use Rattle.boats.specs.Boats.{doubled, records, boat_rating, ratings_of}
 use Rattle.boats.specs.Report.{count, is_accepted, figures_of, report_of}
 use Rattle.boats.specs.Fleet.{no_report, reported, fleet_of, fleet_of_numbers}
 use Rattle.boats.specs.Promises.{Eights, First, FleetFigures}
-use Rattle.boats.specs.Walk.{start, one, boats_in}
+use Rattle.boats.specs.Walk.{start, one}
 use Rattle.boats.proofs.Tally.{tallied, count-cons}
 use Rattle.boats.proofs.Leading.{clash, Best, best, position-is}
-use Rattle.boats.proofs.Walked.{length-records, all-eight, boats-fit}
+use Rattle.boats.proofs.Walked.{all-eight, same-page}
 use Rattle.boats.proofs.Counts.{counted, low_small, high_small, are-joined}
 use Rattle.boats.proofs.Outcomes.{paged, listed-number, paged-zero, page-listed, page-otherwise, numbers-listed, numbers-otherwise}
 use Rattle.boats.proofs.Income.{premium-is, income}
@@ -58,7 +58,7 @@ module _ (e : Engine) (bs : List (List ℤ)) where
 
   leading : Best d rs (length rs) (report_of e bs).greatest (tallied 0 start rs).top
   unfolding figures_of
-  leading = rw (position-is d rs (tallied 0 start rs).greatest (tallied 0 start rs).top (best d rs)) (best d rs)
+  leading = rw (position-is d rs (tallied 0 start rs).report.greatest (tallied 0 start rs).top (best d rs)) (best d rs)
 
   none-greatest : ((report_of e bs).greatest ≡ 0) ↔ ((report_of e bs).accepted ≡ 0)
   unfolding figures_of
@@ -98,14 +98,6 @@ taken-alone e bs cs h =
     page-of e bs
     ∙ ap₂ (λ (m : ℕ) (us : List Rating). paged (ratable e.codelist) (leb m 1000) (figures_of us)) n r
     ∙ sym (page-of e cs)
-
--- ---- both forms of a list
-same-page : (e : Engine) (xs : List ℤ) → length xs % 8 ≡ 0 → fleet_of_numbers e xs ≡ fleet_of e (records xs)
-unfolding fleet_of fleet_of_numbers
-same-page e xs h =
-    let n : boats_in (length xs) ≡ length (records xs) =
-    ap (λ (b : Bool). cond b (length xs / 8) 1001) (eq-eqb (length xs % 8) 0 h) ∙ sym (length-records (length xs / 8) xs) in
-    ap (λ (q : Bool). paged (ratable e.codelist) q (report_of e (records xs))) (sym (boats-fit (length xs)) ∙ ap (λ (m : ℕ). leb m 1000) n)
 
 -- ---- a page that is reported
 module _ (e : Engine) (r : Ratable e.codelist) where

@@ -2,7 +2,7 @@
 -- each; the first n are the factor values, the rest are ignored. Each boat is rated with both ends of every range at its value."
 use Rattle.std.specs.Prelude.{List, [], ◌∷◌, map, ℕ, zero, suc, ◌/◌, ℤ, length, take, drop}
 use Rattle.engine.specs.declared.Engine.{Engine}
-use Rattle.engine.specs.declared.Rating.{Rating}
+use Rattle.engine.specs.InFull.{Rating}
 use Rattle.engine.specs.Engine.{rated_of}
 use Rattle.boats.specs.declared.Boat.{Boat}
 

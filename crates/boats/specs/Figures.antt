@@ -20,7 +20,7 @@ use Rattle.engine.specs.declared.Engine.{Engine}
 use Rattle.engine.specs.Engine.{empty_engine, rated_of}
 use Rattle.boats.specs.Boats.{doubled, boat_rating}
 use Rattle.boats.specs.Report.{leads, figures_of}
-use Rattle.boats.specs.declared.Counted.{Counted}
+use Rattle.boats.specs.InFull.{Counted}
 use Rattle.boats.specs.declared.Refusal.TheVariants.{NoCodelist, Boats}
 use Rattle.boats.specs.Fleet.{no_report, reported, refused, fleet_of, fleet_of_numbers}
 

@@ -1,13 +1,15 @@
 -- The calls of the fleet page. 02, request 3: "An empty desk gives 10 first, and a list of more than 1,000 boats, or with an unfinished record, gets
 -- 14 with place 0 next."
 use Rattle.std.specs.Prelude.{cond, ◌&&◌, List, [], ◌∷◌, ℕ, ◌%◌, leb, eqb, ℤ, pos, length}
+use Rattle.std.specs.declared.result.Result.{Result}
+use Rattle.std.specs.declared.result.Result.TheVariants.{Ok, Err}
 use Rattle.codelist.specs.Codelist.{ratable}
 use Rattle.engine.specs.declared.Engine.{Engine}
 use Rattle.boats.specs.declared.Report.{Report}
 use Rattle.boats.specs.declared.Refusal.{Refusal}
 use Rattle.boats.specs.declared.Refusal.TheVariants.{NoCodelist, Boats}
-use Rattle.boats.specs.declared.Outcome.TheVariants.{Reported, Refused}
-use Rattle.boats.specs.declared.Counted.{Counted}
+use Rattle.boats.specs.InFull.{Reported, Refused}
+use Rattle.boats.specs.InFull.{Counted}
 use Rattle.boats.specs.Boats.{records}
 use Rattle.boats.specs.Report.{report_of}
 
@@ -32,6 +34,11 @@ reported r = record { outcome = Reported; report = r }
 
 abbrev pub refused : Refusal → Counted
 refused r = record { outcome = Refused r; report = no_report }
+
+-- the code's answer in full
+abbrev pub in_full : Result Report Refusal → Counted
+in_full (Ok r) = reported r
+in_full (Err r) = refused r
 
 -- THE PAGE of records
 unfoldable pub fleet_of : Engine → List (List ℤ) → Counted

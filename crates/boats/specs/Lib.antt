@@ -1,4 +1,5 @@
 -- The fleet page: Boats, Report and Fleet say what it is, Promises and Exchange what is promised of it. Walk serves the contracts of private functions.
+pub mod InFull
 pub mod Boats
 pub mod Report
 pub mod Fleet

@@ -9,10 +9,10 @@ use Rattle.codelist.specs.declared.Codelist.{Codelist}
 use Rattle.codelist.specs.Codelist.{Ratable}
 use Rattle.rules.specs.Exact.{Jet, premium_of}
 use Rattle.engine.specs.declared.Engine.{Engine}
-use Rattle.engine.specs.declared.Rating.{Rating}
+use Rattle.engine.specs.InFull.{Rating}
 use Rattle.boats.specs.declared.Refusal.{Refusal}
 use Rattle.boats.specs.declared.Refusal.TheVariants.{NoCodelist, Boats}
-use Rattle.boats.specs.declared.Outcome.TheVariants.{Reported, Refused}
+use Rattle.boats.specs.InFull.{Reported, Refused}
 use Rattle.boats.specs.declared.Report.{Report}
 use Rattle.boats.specs.Boats.{records, boat_rating}
 use Rattle.boats.specs.Report.{is_accepted, high_end, report_of}

@@ -2,9 +2,9 @@
 use Rattle.std.specs.Prelude.{Bool, true, false, ◌&&◌, cond, List, [], ◌∷◌, map, ℕ, zero, suc, eqb, ℤ, pos, ◌+ℤ◌, length}
 use Rattle.std.specs.Int.Signed.{le_z}
 use Rattle.engine.specs.declared.Engine.{Engine}
-use Rattle.engine.specs.declared.Outcome.{Outcome}
-use Rattle.engine.specs.declared.Outcome.TheVariants.{Accepted, Refused}
-use Rattle.engine.specs.declared.Rating.{Rating}
+use Rattle.engine.specs.InFull.{Outcome}
+use Rattle.engine.specs.InFull.{Accepted, Refused}
+use Rattle.engine.specs.InFull.{Rating}
 use Rattle.engine.specs.Engine.{number_of}
 use Rattle.boats.specs.declared.Report.{Report}
 use Rattle.boats.specs.Boats.{ratings_of}

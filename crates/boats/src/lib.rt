@@ -1,16 +1,14 @@
 // The fleet page (02, request 3): figures over the members' boats, each rated by the engine as a class of one point.
 #![tactic(auto)]
 
-ghost use Rattle.std.specs.Prelude.{◌≡◌, ◌<◌, length, get_or};
+ghost use Rattle.std.specs.Prelude.{◌≡◌};
 ghost use Rattle.boats.specs.Boats.{numbers_of};
-ghost use Rattle.boats.specs.Fleet.{number_of, place_of, fleet_of, fleet_of_numbers};
-ghost use Rattle.boats.specs.Walk.{no_boat};
+ghost use Rattle.boats.specs.Fleet.{number_of, place_of, fleet_of, fleet_of_numbers, in_full};
 
 use engine::Engine;
 
-mod pages; // pages.rt: how many boats are rated, and the answer
+mod page; // page.rt: the walk over the boats, in either form
 mod rating; // rating.rt: the rating of one boat
-mod records; // records.rt: the boats of a flat list of numbers
 mod totals; // totals.rt: the running total over the boats
 
 // The most boats of a page.
@@ -23,7 +21,7 @@ pub struct Boat {
 }
 
 // The figures: how many boats are accepted, how many are refused with 9, 11 and 12, the sums of the accepted boats' value ends, and the
-// position, from 1, of the first boat with the greatest high end; 0 if no boat is accepted.
+// position, from 1, of the first boat with the greatest high end; 0, and not an option, if no boat is accepted: `greatest-none` says so of the page.
 #[derive(Clone, Copy)]
 pub struct Report {
     pub accepted: u64,
@@ -36,25 +34,12 @@ pub struct Report {
 }
 
 // Why there is no report.
-#[derive(Clone, Copy)]
+#[derive(Clone, Copy, PartialEq, Eq)]
 pub enum Refusal {
     // 10: there is no codelist.
     NoCodelist,
     // 14: more than 1,000 boats, or an unfinished record.
     Boats,
-}
-
-#[derive(Clone, Copy)]
-pub enum Outcome {
-    Reported,
-    Refused(Refusal),
-}
-
-// The answer. After a refusal every figure is 0.
-#[derive(Clone, Copy)]
-pub struct Counted {
-    pub outcome: Outcome,
-    pub report: Report,
 }
 
 impl Refusal {
@@ -76,39 +61,20 @@ impl Refusal {
     }
 }
 
-// The page of records of eight numbers, one after another.
-pub fn of_numbers(engine: Engine, numbers: &[i64]) -> Counted
-    ensures { result ≡ fleet_of_numbers engine numbers.now }
+// The page of records of eight numbers, one after another. 10 comes before 14, which an unfinished record gets too.
+pub fn of_numbers(engine: Engine, numbers: &[i64]) -> Result<Report, Refusal>
+    ensures { in_full result ≡ fleet_of_numbers engine numbers.now }
 {
-    let count = records::boats_in(numbers.len());
-    let turns = pages::turns_of(engine, count);
-    let mut sum = totals::START;
-    let mut k: usize = 0;
-    while k < turns {
-        sum = totals::with_boat(engine, k, sum, records::boat_of(numbers, k));
-        k += 1;
+    let (records, rest) = numbers.as_chunks::<8>();
+    if !rest.is_empty() && codelist::is_ratable(engine.codelist) {
+        return Err(Refusal::Boats);
     }
-    pages::counted(engine, count, sum)
-}
-
-// The boat at k, from 0.
-fn boat_at(boats: &[Boat], k: usize) -> Boat
-    requires { k < length boats.now }
-    ensures { result ≡ get_or boats.now k no_boat }
-{
-    boats[k]
+    page::of_records(engine, records)
 }
 
 // The page of a lent list of boats.
-pub fn of_boats(engine: Engine, boats: &[Boat]) -> Counted
-    ensures { result ≡ fleet_of engine (numbers_of boats.now) }
+pub fn of_boats(engine: Engine, boats: &[Boat]) -> Result<Report, Refusal>
+    ensures { in_full result ≡ fleet_of engine (numbers_of boats.now) }
 {
-    let turns = pages::turns_of(engine, boats.len());
-    let mut sum = totals::START;
-    let mut k: usize = 0;
-    while k < turns {
-        sum = totals::with_boat(engine, k, sum, boat_at(boats, k));
-        k += 1;
-    }
-    pages::counted(engine, boats.len(), sum)
+    page::of_records(engine, boats)
 }

@@ -1,40 +1,29 @@
 // The rating of one boat: a class of one point, with both ends of every range at its value.
-ghost use Rattle.std.specs.Prelude.{◌≡◌, cond, ◌*◌, ◌≤◌, ltb};
+ghost use Rattle.std.specs.Prelude.{◌≡◌};
+ghost use Rattle.engine.specs.Engine.{in_full};
 ghost use Rattle.boats.specs.Boats.{doubled, boat_rating};
 
-use super::Boat;
-use engine::{Engine, Rating};
+use engine::{Engine, Refusal};
+use rules::Limits;
 
 // The numbers, each twice: both ends of its range.
 fn twice(b: [i64; 8]) -> [i64; 16]
     ensures { result ≡ doubled b }
 {
     let mut ends = [0i64; 16];
-    let mut a: usize = 0;
-    while a < 8 {
-        let x = b[a];
-        let at = 2 * a;
-        ends[at] = x;
-        ends[at + 1] = x;
-        a += 1;
+    // By the number's place, which its two ends have twice.
+    for a in 0..8 {
+        ends[2 * a] = b[a];
+        ends[2 * a + 1] = b[a];
     }
     ends
 }
 
-// How many of these are ends of n factors.
-fn ends(n: u8) -> usize
-    ensures { (result ≤ 16) × (result ≡ cond (ltb n 8) (2 * n) 16) }
+// The rating of a boat, by the engine: the first n of its numbers are the ends of n factors.
+pub(crate) fn of_boat(engine: Engine, boat: [i64; 8]) -> Result<Limits, Refusal>
+    ensures { in_full result ≡ boat_rating engine boat }
 {
-    if n < 8 { 2 * n as usize } else { 16 }
-}
-
-// The rating of a boat, by the engine.
-pub(crate) fn of_boat(engine: Engine, boat: Boat) -> Rating
-    ensures { result ≡ boat_rating engine boat.numbers }
-{
-    let numbers = boat.numbers;
-    let ranges = twice(numbers);
-    let codelist = engine.codelist;
-    let end = ends(codelist.factors);
+    let ranges = twice(boat);
+    let end = (2 * usize::from(engine.codelist.factors)).min(16);
     engine.rate(&ranges[..end])
 }

@@ -2,13 +2,13 @@
 use mathlib.Core.Path.{◌≡◌, refl, sym, ap, ◌∙◌}
 use mathlib.Core.Bool.{Bool, true, false, cond, false≢true}
 use mathlib.Core.List.{List}
-use Prim.Native.Nat.{ℕ, ◌+◌, ◌*◌, ◌%◌, ◌^◌, ◌≤◌, ◌<◌}
+use Prim.Native.Nat.{ℕ, ◌*◌, ◌%◌, ◌^◌, ◌≤◌, ◌<◌}
 use native.Mathlib.Nat as N
 use borrow.Author.Tests.{eqb-true, eqb-false, ne_eqb}
 use native.Mathlib.Omega.{arith}
 use lib.Dec.{eqb, lit<}
-use lib.IntN.{ℤ}
-use lib.ListN.{length, set, length-set}
+use Rattle.std.specs.Prelude.{Some, None}
+use lib.ListN.{set, length-set}
 use lib.Pow.{pow_pos, pow_mono}
 use lib.Seq.{get_or-set_same, get_or-set_other}
 use Rattle.range.specs.declared.Range.{Range}
@@ -16,13 +16,12 @@ use Rattle.range.specs.Limit.{zero_range, one_range, is_valid}
 use Rattle.range.specs.Sums.{has, at}
 use Rattle.rules.specs.Table.{factor_row, eight, line_of}
 use Rattle.rules.specs.Run.{within}
-use Rattle.bounds.specs.declared.slopes.Slopes.{Slopes}
+use Rattle.bounds.specs.declared.table.Table.{Table}
 use Rattle.bounds.specs.Terms.{Fine}
-use Rattle.bounds.specs.Table.{Blank, put_pair, Placed, Worked}
+use Rattle.bounds.specs.Table.{gradient_at, Blank, Beside, line_with, Placed, Worked}
 use Rattle.bounds.proofs.Members.{at-any, at-eight, is-eight}
 use Rattle.bounds.proofs.Validity.{zero-valid}
-use Rattle.bounds.proofs.Storing.{Storing, storing-start, storing-more}
-use Rattle.bounds.proofs.Working.{placed, stored-others}
+use Rattle.bounds.proofs.Working.{beside-others}
 
 -- a one that is shifted by at most k places, in a word that has room for it
 pub shifted : (n k m : ℕ) → n ≤ k → 2 ^ k < m → 1 * 2 ^ n % m ≡ 2 ^ n
@@ -48,31 +47,23 @@ one_at a h = is-eight (set zeros a one_range) (ones_at a) (length-set zeros a on
         rw (e, p) (get_or-set_same zeros a one_range zero_range h)
     go k l false e = rw e (get_or-set_other zeros a k one_range zero_range (eqb-false k a e) ∙ at-eight (λ b. zero_range) k l)
 
--- written to the line a of the table t, whose slopes were zero
-module _ (t : List ℤ) (a : ℕ) (few : a < 8) (long : length t ≡ 1280) (blank : Blank t a)
-    (u : List ℤ) (w : u ≡ put_pair t (20 * a + 4 + 2 * a) one_range)
-  where
-    written : Storing (eight (ones_at a)) t a u
-    written = rw (w, sym (one_at a few)) (storing-more (storing-start (omega arith) long blank) few one_range)
-
-    -- the line, as the code makes it: its slope, and then its head
-    pub factor-placed : (b : ℕ) (r : Range) (s : List ℕ) (x : List ℤ) (v : List ℕ)
-        → (x ≡ put_pair (put_pair u (20 * a) r) (20 * a + 2) zero_range) × (v ≡ set (set s (2 * a) (1 * 2 ^ a % 256)) (2 * a + 1) b)
-        → length s ≡ 128 → Placed (line_of (factor_row b a r)) t s a x v
-    unfolding factor_row line_of
-    factor-placed b r s x v w sets =
-        let g : Slopes = record { gradient = eight (ones_at a); valid = true } in
-        let p = placed u s a g x v w written.stored.slopes written.long sets (omega (arith, few)) in
-        record {
-          line = p.line ∙ (λ i. record {
-            value = r;
-            gradient = eight (ones_at a);
-            support = shifted a 7 256 (omega arith) (lit< tt) i;
-            nonlinear = b;
-            spectrum = zero_range;
-          });
-          others = stored-others written.stored s x v p.others;
-        }
+-- from the table t to the table u the slope of the factor a is written to the line a, whose slopes were zero, and from there to the table x its head
+pub factor-placed : (b a : ℕ) (r : Range) → a < 8 → (t u x : Table) → Blank t a → gradient_at u a ≡ set (gradient_at t a) a one_range → Beside t a u
+    → Placed (line_with (record { value = r; spectrum = zero_range; support = 1 * 2 ^ a % 256; nonlinear = b }) (gradient_at u a)) u a x
+    → Placed (line_of (factor_row b a r)) t a x
+unfolding factor_row line_of
+factor-placed b a r few t u x blank slope beside p =
+    let slopes = slope ∙ ap (λ (l : List Range). set l a one_range) blank ∙ one_at a few in
+    record {
+      line = p.line ∙ (λ i. record {
+        value = r;
+        gradient = slopes i;
+        support = shifted a 7 256 (omega arith) (lit< tt) i;
+        nonlinear = b;
+        spectrum = zero_range;
+      });
+      others = beside-others beside x p.others;
+    }
 
 -- ---- the line may be referred to
 single-has : (a : ℕ) → has (2 ^ a) a ≡ true
@@ -98,10 +89,17 @@ module _ (a : ℕ) where
   }
 
 -- ---- the row, worked out: its line is placed, and its slopes are given back
-pub factor-worked : (b a : ℕ) → a < 8 → (r : Range) → is_valid r ≡ true → {t : List ℤ} {s : List ℕ} {u : List ℤ} {v : List ℕ}
-    → Placed (line_of (factor_row b a r)) t s a u v
-    → Worked (factor_row b a r) t s a (record { gradient = set (eight (λ b. zero_range)) a one_range; valid = true }) u v
-unfolding line_of factor_row
-factor-worked b a h r ok p =
-    let f = factor-fine a b r ok in
-    record { tells = sym f.valid; slopes = λ e. one_at a h; line = λ e. p.line; fine = λ e. f; others = p.others }
+module _ (b a : ℕ) (few : a < 8) (r : Range) (ok : is_valid r ≡ true) where
+  pub factor-worked : {t x : Table} → Placed (line_of (factor_row b a r)) t a x
+      → Worked (factor_row b a r) t a (Some (set (eight (λ b. zero_range)) a one_range)) x
+  unfolding line_of factor_row
+  factor-worked p =
+      let f = factor-fine a b r ok in
+      record {
+        settled = record {
+          answer = ap (λ (l : List Range). Some l) (one_at a few) ∙ sym (ap (λ (t : Bool). cond t (Some (eight (ones_at a))) None) f.valid);
+          line = λ _. p.line;
+          others = p.others;
+        };
+        fine = λ _. f;
+      }

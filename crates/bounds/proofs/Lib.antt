@@ -5,7 +5,6 @@ pub mod Narrow
 pub mod Members
 pub mod Validity
 pub mod Filling
-pub mod Storing
 pub mod Zeros
 pub mod Signs
 pub mod Heads
@@ -15,4 +14,5 @@ pub mod Ranges
 pub mod Running
 pub mod Starting
 pub mod Answers
+pub mod Lying
 pub mod Reading

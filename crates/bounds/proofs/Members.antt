@@ -51,10 +51,6 @@ is-eight g f e h = ext_get_or zero_range g (eight f) e (λ k b. let l : k < 8 = 
 pub eight-same : (f g : ℕ → Range) → ((a : ℕ) → a < 8 → f a ≡ g a) → eight f ≡ eight g
 eight-same f g e = is-eight (eight f) g refl (λ k h. at-eight f k h ∙ e k h)
 
--- eight ranges, written out
-pub eight-at : (g : List Range) → length g ≡ 8 → g ≡ eight (at g)
-eight-at g e = is-eight g (at g) e (λ k h. refl)
-
 -- ---- outside the set
 module _ (s : ℕ) (f : ℕ → Range) where
   -- a rule that is zero outside a set needs no test

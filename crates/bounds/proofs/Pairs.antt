@@ -14,7 +14,7 @@ use Rattle.range.specs.declared.Range.{Range}
 use Rattle.range.specs.Limit.{from_to, zero_range}
 use Rattle.range.specs.Sums.{at, pair_at, ranges_from}
 use Rattle.range.proofs.Pairs.{ranges-at}
-use Rattle.bounds.specs.Table.{gradient_at, put_pair}
+use Rattle.bounds.specs.Table.{slopes_from, put_pair}
 
 -- ---- a range that is written
 module _ (t : List ℤ) (m : ℕ) (r : Range) where
@@ -55,14 +55,14 @@ module _ (u t : List ℤ) where
       )
 
 -- ---- the slopes of a line
-pub slope-at : (t : List ℤ) (k a : ℕ) → a < 8 → at (gradient_at t k) a ≡ pair_at t (20 * k + 4 + 2 * a)
+pub slope-at : (t : List ℤ) (k a : ℕ) → a < 8 → at (slopes_from t k) a ≡ pair_at t (20 * k + 4 + 2 * a)
 slope-at t k a h = ranges-at t (20 * k + 4) a h
 
 -- one that is written
 pub slope-set : (t : List ℤ) (k a : ℕ) (r : Range) → k < 64 → a < 8 → length t ≡ 1280
-    → gradient_at (put_pair t (20 * k + 4 + 2 * a) r) k ≡ set (gradient_at t k) a r
+    → slopes_from (put_pair t (20 * k + 4 + 2 * a) r) k ≡ set (slopes_from t k) a r
 slope-set t k a r i h l =
-    ext_get_or zero_range (gradient_at v k) (set g a r) (sym (length-set g a r)) (λ b p. slope-at v k b p ∙ go b p (eqb b a) refl)
+    ext_get_or zero_range (slopes_from v k) (set g a r) (sym (length-set g a r)) (λ b p. slope-at v k b p ∙ go b p (eqb b a) refl)
   where
     n : ℕ
     n = 20 * k + 4 + 2 * a
@@ -71,7 +71,7 @@ slope-set t k a r i h l =
     v = put_pair t n r
 
     g : List Range
-    g = gradient_at t k
+    g = slopes_from t k
 
     go : (b : ℕ) → b < 8 → (same : Bool) → eqb b a ≡ same → pair_at v (20 * k + 4 + 2 * b) ≡ at (set g a r) b
     go b p true e = rw (eqb-true b a e) (put-read t n r (omega arith) ∙ sym (get_or-set_same g a r zero_range h))
@@ -81,3 +81,12 @@ slope-set t k a r i h l =
         same-pair v t _ (o _ (λ z. apart (omega arith)) (λ z. omega arith)) (o _ (λ z. omega arith) (λ z. apart (omega arith)))
         ∙ sym (slope-at t k b p)
         ∙ sym (get_or-set_other g a b r zero_range apart)
+
+-- and any number that is none of the line's slopes
+pub slope-apart : (t : List ℤ) (k a : ℕ) (r : Range) → a < 8 → (m : ℕ) → (m < 20 * k + 4) ⊎ (20 * k + 20 ≤ m)
+    → get_or (put_pair t (20 * k + 4 + 2 * a) r) m (pos 0) ≡ get_or t m (pos 0)
+slope-apart t k a r h m o = put_other t (20 * k + 4 + 2 * a) r m (outside o)
+  where
+    outside : (m < 20 * k + 4) ⊎ (20 * k + 20 ≤ m) → (m < 20 * k + 4 + 2 * a) ⊎ (20 * k + 4 + 2 * a + 2 ≤ m)
+    outside (inl q) = inl (omega arith)
+    outside (inr q) = inr (omega arith)

@@ -8,16 +8,12 @@ use native.Mathlib.Numerals.{add-one}
 use lib.ListN.{length, take}
 use lib.Seq.{take-suc}
 use Rattle.range.specs.declared.Range.{Range}
-use Rattle.range.specs.Limit.{zero_range, over, is_valid}
+use Rattle.range.specs.Limit.{zero_range, is_valid}
 use Rattle.range.specs.Sums.{at}
 use Rattle.range.proofs.Fitting.{and_first, and_second}
 use Rattle.range.proofs.Valid.{and-false}
 use Rattle.rules.specs.declared.Line.{Line}
 use Rattle.rules.specs.Run.{each_valid, within}
-
-pub over_no : is_valid over ≡ false
-unfolding is_valid
-over_no = refl
 
 pub zero-valid : is_valid zero_range ≡ true
 unfolding is_valid

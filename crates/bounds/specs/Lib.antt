@@ -1,3 +1,5 @@
 -- What the private contracts of the crate speak of.
 pub mod Terms
 pub mod Table
+pub mod Answer
+pub mod FirstBad

@@ -7,8 +7,7 @@ use Rattle.range.specs.Sums.{has, at}
 use Rattle.rules.specs.declared.Line.{Line}
 use Rattle.rules.specs.Formula.{given, sticky}
 use Rattle.rules.specs.Table.{extended, spectrum_of_sum, square_spectrum, cross_spectrum, eight}
-use Rattle.rules.specs.Run.{each_valid, within}
-use Rattle.bounds.specs.declared.slopes.Slopes.{Slopes}
+use Rattle.rules.specs.Run.{within}
 
 -- ════ spectra ════
 -- 01's lift, join, Sq and Cross, as the engine works them out.
@@ -39,10 +38,6 @@ member_or s f a = cond (has s a) (f a) zero_range
 
 abbrev pub over_members : ℕ → (ℕ → Range) → List Range
 over_members s f = eight (member_or s f)
-
--- The slopes that f gives for the factors in s, and whether all are valid.
-abbrev pub slopes_of : ℕ → (ℕ → Range) → Slopes
-slopes_of s f = record { gradient = over_members s f; valid = each_valid (over_members s f) }
 
 -- ════ lines ════
 

@@ -5,10 +5,11 @@
 
 ghost use Rattle.std.specs.Prelude.{◌≡◌};
 ghost use Rattle.encoding.specs.Decode.{lent_codelist};
-ghost use Rattle.rules.specs.Rate.{pairs, first_bad, rate_of};
+ghost use Rattle.rules.specs.Rate.{pairs, first_bad, in_full, rate_of};
+ghost use Rattle.bounds.specs.FirstBad.{or_none};
 
 use codelist::Codelist;
-use rules::Rating;
+use rules::{Limits, Refusal};
 
 mod lent; // lent.rt: the run over a codelist in lent bytes
 mod rows; // rows.rt: the rows of 01's table, a function each
@@ -16,34 +17,33 @@ mod run; // run.rt: the run over the lines of a codelist, and the refusals of ra
 mod slopes; // slopes.rt: the slopes of a row, for the members of its set
 mod spectrum; // spectrum.rt: sets of factors, and spectra over them
 mod table; // table.rt: the table of lines
-mod valid; // valid.rt: stand-ins for `Range`'s sum and product, of ranges that are known to be valid
+mod valid; // valid.rt: stand-ins for `Range`'s sum, product and hull, of ranges that are known to be valid
 
 // Rates the ranges `xs`, two numbers for each factor. A codelist that can't be rated counts as none, as an empty engine's:
 // one without factors or operations, with too many of them, or with an operation that is not well formed.
-pub fn rate(c: Codelist, xs: &[i64]) -> Rating
-    ensures { result ≡ rate_of c xs.now }
+pub fn rate(c: Codelist, xs: &[i64]) -> Result<Limits, Refusal>
+    ensures { in_full result ≡ rate_of c xs.now }
 {
     run::answer(c, xs)
 }
 
 // Rates the ranges `xs` against the codelist that lent bytes hold (02, request 10), which is read where it lies. Bytes that hold none count as an empty
 // engine.
-pub fn rate_at(state: &[u8], xs: &[i64]) -> Rating
-    ensures { result ≡ rate_of (lent_codelist state.now) xs.now }
+pub fn rate_at(state: &[u8], xs: &[i64]) -> Result<Limits, Refusal>
+    ensures { in_full result ≡ rate_of (lent_codelist state.now) xs.now }
 {
     lent::answer(state, xs)
 }
 
-// Refusal 9: the lowest factor, counted from 1, whose range is not valid; 0 if there is none. A number after the last pair is not looked at.
-pub fn first_bad(xs: &[i64]) -> usize
-    ensures { result ≡ first_bad 1 (pairs xs.now) }
+// Refusal 9: the lowest factor, counted from 1, whose range is not valid. A number after the last pair is not looked at.
+pub fn first_bad(xs: &[i64]) -> Option<usize>
+    ensures { result ≡ or_none (first_bad 1 (pairs xs.now)) }
 {
-    let mut a: usize = 0;
-    while a < xs.len() / 2 {
+    // By the factor, which is the answer; a number behind the last pair is none of a range.
+    for a in 0..xs.len() / 2 {
         if !run::range_at(xs, a).valid() {
-            return a + 1;
+            return Some(a + 1);
         }
-        a += 1;
     }
-    0
+    None
 }

@@ -1,60 +1,39 @@
-// The run over the lines of a codelist, and the refusals of rating.
-ghost use Rattle.std.specs.Prelude.{◌≡◌, true, cond, List, ℕ, ◌-◌, ◌≤◌, ◌<◌, length, get_or};
+// The run over the lines of a codelist, wherever its operations lie, and the refusals of rating.
+ghost use Rattle.std.specs.Prelude.{◌≡◌, true, ℕ, ◌+◌, ◌-◌, ◌≤◌, ◌<◌, length, get_or, Some};
 ghost use Rattle.range.specs.Limit.{zero_range};
 ghost use Rattle.range.specs.Arithmetic.{holds_zero};
-ghost use Rattle.codelist.specs.Codelist.{WellFormedOp, ratable};
-ghost use Rattle.rules.specs.declared.Refusal.TheVariants.{NoCodelist};
+ghost use Rattle.codelist.specs.declared.Codelist.{Codelist};
+ghost use Rattle.codelist.specs.declared.Op.{Op};
+ghost use Rattle.codelist.specs.Codelist.{WellFormedOp};
 ghost use Rattle.rules.specs.Run.{each_valid, row_of, inverts_zero, bent_in, factor_lines};
-ghost use Rattle.rules.specs.Rate.{limits_of, rated, refused, pairs, rate_of};
+ghost use Rattle.rules.specs.Rate.{in_full, limits_of, pairs, rate_of};
 ghost use Rattle.bounds.specs.Terms.{Fine};
 ghost use Rattle.bounds.specs.Table.{gradient_at, line_at, lines_up_to, Ready, Worked, Started};
+ghost use Rattle.bounds.specs.Answer.{Counted, IsOf, Lies, in_order};
 
-use super::slopes::Slopes;
-use super::{rows, spectrum, table};
+use super::table::Table;
+use super::{rows, spectrum};
 use codelist::{Codelist, Op, Year};
+use encoding::Front;
 use range::Range;
-use rules::{Limits, Outcome, Rating, Refusal};
-
-pub(crate) fn refuse(r: Refusal) -> Rating
-    ensures { result ≡ refused r }
-{
-    let limits = Limits::ZERO;
-    Rating {
-        outcome: Outcome::Refused(r),
-        limits: limits,
-    }
-}
+use rules::{Limits, Refusal};
 
 // The result is that of the line k, whose slopes are given, with its spectrum extended to all n factors besides.
-pub(crate) fn result(
-    t: &[i32; 1280],
-    s: &[u8; 128],
-    n: u8,
-    k: usize,
-    gradient: [Range; 8],
-) -> Rating
+fn result(t: &Table, n: u8, k: usize, gradient: [Range; 8]) -> Limits
     requires n_bound { n ≤ 8 }
     requires k_bound { k < 64 }
-    requires fine { Fine (line_at t.now s.now k) }
     requires gradient_value { gradient ≡ gradient_at t.now k }
-    ensures { result ≡ rated (limits_of n (line_at t.now s.now k)) }
+    ensures { result ≡ limits_of n (line_at t.now k) }
 {
-    let value = table::value(t, k);
-    let spectrum = table::spectrum(t, k);
-    let nonlinear = table::nonlinear(s, k);
-    let all = spectrum::all_of(n);
-    let full = spectrum::extended(spectrum, nonlinear, all);
-    let limits = Limits {
-        value: value,
-        gradient: gradient,
-        support: table::support(s, k),
-        nonlinear: nonlinear,
-        spectrum: spectrum,
-        full: full,
-    };
-    Rating {
-        outcome: Outcome::Rated,
-        limits: limits,
+    let spectrum = t.spectrum(k);
+    let nonlinear = t.nonlinear(k);
+    Limits {
+        value: t.value(k),
+        gradient,
+        support: t.support(k),
+        nonlinear,
+        spectrum,
+        full: spectrum::extended(spectrum, nonlinear, spectrum::all_of(n)),
     }
 }
 
@@ -82,7 +61,7 @@ fn index(i: u8) -> usize
 }
 
 // The factors that every line is bent in: none, or, in 2014, all (02, request 9). The one place where the year is looked at.
-pub(crate) fn bent_in(year: Year, n: u8) -> u8
+fn bent_in(year: Year, n: u8) -> u8
     requires { n ≤ 8 }
     ensures { result ≡ bent_in year n }
 {
@@ -93,114 +72,107 @@ pub(crate) fn bent_in(year: Year, n: u8) -> u8
 }
 
 // The lines of the n factors, with the bent set b. What is given back is the slopes of the last.
-pub(crate) fn start(
-    t: &mut [i32; 1280],
-    s: &mut [u8; 128],
-    xs: &[i64],
-    b: u8,
-    n: usize,
-) -> [Range; 8]
-    requires ready { Ready t.old s.old 0 }
+fn start(t: &mut Table, xs: &[i64], b: u8, n: usize) -> [Range; 8]
+    requires ready { Ready t.old 0 }
     requires xs_len { length (pairs xs.now) ≡ n }
     requires le_n { (1 ≤ n) × (n ≤ 8) }
     requires xs_value { each_valid (pairs xs.now) ≡ true }
-    ensures started { Started (factor_lines b 0 (pairs xs.now)) n t.new s.new }
+    ensures started { Started (factor_lines b 0 (pairs xs.now)) n t.new }
     ensures value { result ≡ gradient_at t.new (n - 1) }
 {
     let mut last = [Range::ZERO; 8];
-    let mut k: usize = 0;
-    while k < n {
-        let g = rows::factor(t, s, b, k, range_at(xs, k));
-        last = g.gradient;
-        k += 1;
+    // By the factor, whose line it is.
+    for a in 0..n {
+        last = rows::factor(t, b, a, range_at(xs, a));
     }
     last
 }
 
 // Refusal 11: whether the operation inverts a range that holds 0.
-pub(crate) fn inverts_zero(t: &[i32; 1280], op: Op, k: usize) -> bool
+fn inverts_zero(t: &Table, op: Op, k: usize) -> bool
     requires well_formed_op { WellFormedOp k op }
     requires k_bound { k < 64 }
-    ensures { (s : List ℕ) → result ≡ inverts_zero op (lines_up_to t.now s k) }
+    ensures { result ≡ inverts_zero op (lines_up_to t.now k) }
 {
     match op {
-        Op::Inv(i) => holds_zero(table::value(t, index(i))),
-        Op::Add(_, _) => false,
-        Op::Mul(_, _) => false,
-        Op::AddC(_, _) => false,
-        Op::MulC(_, _) => false,
-        Op::Pow(_, _) => false,
+        Op::Inv(i) => holds_zero(t.value(index(i))),
+        Op::Add(_, _) | Op::Mul(_, _) | Op::AddC(_, _) | Op::MulC(_, _) | Op::Pow(_, _) => false,
     }
 }
 
-// The line k, counted from 0, of its operation. The answer is its slopes, and whether all its ranges are valid.
-pub(crate) fn work(t: &mut [i32; 1280], s: &mut [u8; 128], op: Op, k: usize) -> Slopes
+// The line k, counted from 0, of its operation. The answer is its slopes, if all its ranges are valid.
+fn work(t: &mut Table, op: Op, k: usize) -> Option<[Range; 8]>
     requires well_formed_op { WellFormedOp k op }
-    requires ready { Ready t.old s.old k }
+    requires ready { Ready t.old k }
     requires k_bound { k < 64 }
-    ensures { Worked
-        (row_of op (lines_up_to t.old s.old k))
-        t.old s.old k result t.new s.new }
+    ensures { Worked (row_of op (lines_up_to t.old k)) t.old k result t.new }
 {
     match op {
-        Op::Add(i, j) => rows::add(t, s, index(i), index(j), k),
-        Op::Mul(i, j) => rows::mul(t, s, index(i), index(j), k),
-        Op::AddC(i, c) => rows::addc(t, s, index(i), c, k),
-        Op::MulC(i, c) => rows::mulc(t, s, index(i), c, k),
-        Op::Pow(i, m) => rows::pow(t, s, index(i), m, k),
-        Op::Inv(i) => rows::inv(t, s, index(i), k),
+        Op::Add(i, j) => rows::add(t, index(i), index(j), k),
+        Op::Mul(i, j) => rows::mul(t, index(i), index(j), k),
+        Op::AddC(i, c) => rows::addc(t, index(i), c, k),
+        Op::MulC(i, c) => rows::mulc(t, index(i), c, k),
+        Op::Pow(i, m) => rows::pow(t, index(i), m, k),
+        Op::Inv(i) => rows::inv(t, index(i), k),
     }
 }
 
-// The refusal r. A codelist that can't be rated is refused before all else.
-fn refuse_ratable(c: Codelist, r: Refusal) -> Rating
-    ensures { result ≡ cond (ratable c) (refused r) (refused NoCodelist) }
+// Rating: 10, 8, 9 (lowest factor), then the lines of the factors and of the operations, in order, 11 before 12. The closure gives the operation
+// of a line, if it is well formed: each is tested just before its line is worked out, which spares a pass over the codelist. So a refusal may
+// come before an operation that is not well formed, and whoever calls tests them all then.
+pub(crate) fn rate<F: Fn(usize) -> Option<Op>>(
+    front: Front,
+    xs: &[i64],
+    op_at: F,
+) -> Result<Limits, Refusal>
+    requires counted { Counted front }
+    requires callable { (k : ℕ) → IsOf k front → F.pre op_at k }
+    requires well_formed { (k : ℕ) (o : Op) → IsOf k front → F.post op_at k (Some o) → WellFormedOp k o }
+    ensures { (c : Codelist) → Lies c front (F.post op_at) → in_order c result ≡ rate_of c xs.now }
 {
-    if codelist::is_ratable(c) {
-        refuse(r)
-    } else {
-        refuse(Refusal::NoCodelist)
+    let n = front.factors as usize;
+    if xs.len() != 2 * n {
+        return Err(Refusal::RangeCount);
     }
+    if let Some(a) = super::first_bad(xs) {
+        return Err(Refusal::BadRange(a as u8));
+    }
+    let mut t = Table::empty();
+    let mut last = start(&mut t, xs, bent_in(front.year, front.factors), n);
+    let end = n + front.count as usize;
+    for k in n..end {
+        let op = op_at(k).ok_or(Refusal::NoCodelist)?;
+        if inverts_zero(&t, op, k) {
+            return Err(Refusal::Divisor(k as u8 + 1));
+        }
+        last = work(&mut t, op, k).ok_or(Refusal::Overflow(k as u8 + 1))?;
+    }
+    Ok(result(&t, front.factors, end - 1, last))
 }
 
-// Rating: 10, 8, 9 (lowest factor), then the lines of the factors and of the operations, in order, 11 before 12. Whether the codelist can be
-// rated is found out on the way, which spares a pass over it: each operation is tested before its line is worked out, and where another refusal
-// comes up, all of them are before it is given.
-pub(crate) fn answer(c: Codelist, xs: &[i64]) -> Rating
-    ensures { result ≡ rate_of c xs.now }
+// Rating over a codelist value.
+pub(crate) fn answer(c: Codelist, xs: &[i64]) -> Result<Limits, Refusal>
+    ensures { in_full result ≡ rate_of c xs.now }
 {
     let n = c.factors as usize;
     let count = c.count as usize;
     if !((1 <= n) & (n <= 8) & (1 <= count) & (n + count <= 64)) {
-        return refuse(Refusal::NoCodelist);
+        return Err(Refusal::NoCodelist);
     }
-    if xs.len() != 2 * n {
-        return refuse_ratable(c, Refusal::RangeCount);
-    }
-    let bad = super::first_bad(xs);
-    if bad != 0 {
-        return refuse_ratable(c, Refusal::BadRange(bad as u8));
-    }
-    let mut t = [0i32; 1280];
-    let mut s = [0u8; 128];
-    let year = c.year;
-    let mut last = start(&mut t, &mut s, xs, bent_in(year, c.factors), n);
-    let mut k = n;
-    while k < n + count {
-        let entry = c.ops[k - n];
-        let op = entry.op;
-        if !codelist::is_op_well_formed(k as u64, op) {
-            return refuse(Refusal::NoCodelist);
+    let front = Front {
+        factors: c.factors,
+        count: c.count,
+        year: c.year,
+    };
+    rate(front, xs, |k| {
+        let op = c.ops[k - n].op;
+        codelist::is_op_well_formed(k as u64, op).then_some(op)
+    })
+    .map_err(|r| {
+        if codelist::is_ratable(c) {
+            r
+        } else {
+            Refusal::NoCodelist
         }
-        if inverts_zero(&t, op, k) {
-            return refuse_ratable(c, Refusal::Divisor(k as u8 + 1));
-        }
-        let g = work(&mut t, &mut s, op, k);
-        if !g.valid {
-            return refuse_ratable(c, Refusal::Overflow(k as u8 + 1));
-        }
-        last = g.gradient;
-        k += 1;
-    }
-    result(&t, &s, c.factors, k - 1, last)
+    })
 }

@@ -6,10 +6,12 @@ ghost use Rattle.rules.specs.Table.{are_singles};
 ghost use Rattle.bounds.specs.Terms.{Told, extended_of, sum_spectrum_of, square_spectrum_of, cross_spectrum_of};
 ghost use Rattle.bounds.specs.Table.{gradient_at};
 
-use super::{table, valid};
+use super::table::Table;
+use super::valid;
 use range::Range;
 
 // The first n factors.
+// A set is a mask, as 01 names the form; n ≤ 8 is what a codelist says of its factors.
 pub(crate) fn all_of(n: u8) -> u8
     requires { n ≤ 8 }
     ensures { result ≡ all_of n }
@@ -38,16 +40,12 @@ pub(crate) fn are_singles(p: u8, q: u8, b: u8, c: u8) -> bool
 }
 
 // The slope of the line i for the only factor in the set, if there is one.
-pub(crate) fn only_of(t: &[i32; 1280], set: u8, i: usize) -> Range
+pub(crate) fn only_of(t: &Table, set: u8, i: usize) -> Range
     requires { i < 64 }
     ensures { result ≡ at (gradient_at t.now i) (only set) }
 {
     let a = u8::trailing_zeros(set) as usize;
-    if a < 8 {
-        table::slope(t, i, a)
-    } else {
-        Range::ZERO
-    }
+    if a < 8 { t.slope(i, a) } else { Range::ZERO }
 }
 
 // Where the slopes of the line i begin in the table.
@@ -79,19 +77,19 @@ pub(crate) fn of_sum(e: Range, b: u8, f: Range, c: u8) -> Range
 }
 
 // The spectrum of gg' over the set, g the slopes of the line i: 01's Sq.
-pub(crate) fn of_square(t: &[i32; 1280], set: u8, i: usize) -> Range
+pub(crate) fn of_square(t: &Table, set: u8, i: usize) -> Range
     requires { i < 64 }
     ensures { result ≡ square_spectrum_of set (gradient_at t.now i) }
 {
     if is_single(set) {
         only_of(t, set, i).power(2)
     } else {
-        Range::sum_of_squares(set, t, slopes_of(i))
+        Range::sum_of_squares(set, &t.numbers, slopes_of(i))
     }
 }
 
 // The spectrum of gh' + hg' over the set, g the slopes of the line i and h those of the line j: 01's Cross.
-pub(crate) fn of_cross(t: &[i32; 1280], set: u8, i: usize, j: usize) -> Range
+pub(crate) fn of_cross(t: &Table, set: u8, i: usize, j: usize) -> Range
     requires i_bound { i < 64 }
     requires j_bound { j < 64 }
     ensures { result ≡ cross_spectrum_of set (gradient_at t.now i) (gradient_at t.now j) }
@@ -99,6 +97,6 @@ pub(crate) fn of_cross(t: &[i32; 1280], set: u8, i: usize, j: usize) -> Range
     if is_single(set) {
         only_of(t, set, i).product(only_of(t, set, j)).times(2)
     } else {
-        Range::cross(set, t, slopes_of(i), slopes_of(j))
+        Range::cross(set, &t.numbers, slopes_of(i), slopes_of(j))
     }
 }

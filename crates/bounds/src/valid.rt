@@ -1,5 +1,6 @@
 // Stand-ins for `Range`'s sum, product and hull where the operands are known to be valid, or are what an operation gave: the same results, with
 // fewer tests. The methods in their place were measured: all of them take a third more time, and the hull of a join alone 4 % (bench/README.md).
+// The validity stands in the clauses and not in a type of its own: the table has plain numbers, and what was read of them would be wrapped each time.
 ghost use Rattle.std.specs.Prelude.{◌≡◌, true, ◌≤◌, nat_abs};
 ghost use Rattle.std.specs.Int.Signed.{le_z};
 ghost use Rattle.range.specs.Limit.{is_valid, kept};

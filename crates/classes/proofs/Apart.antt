@@ -6,12 +6,12 @@ use mathlib.Core.Path.{◌≡◌, refl, sym, ap, ◌∙◌}
 use lib.Dec.{eqb}
 use borrow.Author.Tests.{eqb-true, eqb-false}
 use Rattle.codelist.specs.declared.Codelist.{Codelist}
-use Rattle.codelist.specs.declared.Loaded.{Loaded}
-use Rattle.codelist.specs.declared.Outcome as loading
+use Rattle.codelist.specs.InFull.{Loaded}
+use Rattle.codelist.specs.InFull as loading
 use Rattle.codelist.specs.Load as Load
 use Rattle.formulas.specs.Load.{Given, given, refused, formula_of}
 use Rattle.engine.specs.declared.Engine.{Engine}
-use Rattle.engine.specs.declared.Loading.{Loading}
+use Rattle.engine.specs.InFull.{Loading}
 use Rattle.engine.specs.Engine.{empty_engine, loaded, loaded_of, formula_loaded, formula_loaded_of, rated_of}
 use Rattle.boats.specs.Fleet.{fleet_of, fleet_of_numbers}
 use Rattle.bisection.specs.Cut.{cut_of}
@@ -100,8 +100,8 @@ unfolding loaded_of formula_loaded_of last_or
 last-left e l cs = of l
   where
     by : (o : loading.Outcome) (c : Codelist) → last_or (loaded e o c).engine.codelist cs ≡ last_or e.codelist (accepted_before o c cs)
-    by loading.TheVariants.Accepted c = refl
-    by (loading.TheVariants.Refused r) c = refl
+    by loading.Accepted c = refl
+    by (loading.Refused r) c = refl
 
     given_by : (g : Given Loaded) → last_or (formula_loaded e g).engine.codelist cs ≡ last_or e.codelist (given_before g cs)
     given_by (given l) = by l.outcome l.codelist

@@ -10,12 +10,12 @@ use Rattle.rules.specs.declared.Refusal.TheVariants.{NoCodelist}
 use Rattle.rules.specs.Rate.{no_limits, rate_numbers}
 use Rattle.formulas.specs.Load.{formula_numbers}
 use Rattle.engine.specs.declared.Engine.{Engine}
-use Rattle.engine.specs.declared.Loading.{Loading}
-use Rattle.engine.specs.declared.Outcome as engine-outcome
+use Rattle.engine.specs.InFull.{Loading}
+use Rattle.engine.specs.InFull as engine-outcome
 use Rattle.engine.specs.declared.Refusal as engine
 use Rattle.engine.specs.Engine.{loaded_of, formula_loaded_of, rated_of}
 use Rattle.engine.proofs.Demands.{demands}
-use Rattle.boats.specs.declared.Outcome as fleet-outcome
+use Rattle.boats.specs.InFull as fleet-outcome
 use Rattle.boats.specs.Fleet.{fleet_numbers, no_report, fleet_of, fleet_of_numbers}
 use Rattle.boats.proofs.Promises.{fleet-figures}
 use Rattle.bisection.specs.Cut.{cut_numbers, cut_of}
@@ -25,12 +25,7 @@ use Rattle.increments.proofs.Promises.{sisters-call}
 use Rattle.classes.specs.declared.Classes.{Classes}
 use Rattle.classes.specs.declared.Refusal.{Refusal}
 use Rattle.classes.specs.declared.Refusal as refusal
-use Rattle.classes.specs.declared.Outcome.{Outcome}
-use Rattle.classes.specs.declared.Outcome.TheVariants.{Accepted, Refused}
-use Rattle.classes.specs.declared.ClassLoading.{ClassLoading}
-use Rattle.classes.specs.declared.ClassRating.{ClassRating}
-use Rattle.classes.specs.declared.ClassFleet.{ClassFleet}
-use Rattle.classes.specs.declared.ClassDifference.{ClassDifference}
+use Rattle.classes.specs.InFull.{Outcome, Accepted, Refused, ClassLoading, ClassRating, ClassFleet, ClassDifference}
 use Rattle.classes.specs.Classes.{is_class, empty_classes, engine_at, codelist_at, with_engine}
 use Rattle.classes.specs.Calls.{number_of, engine_outcome, cut_outcome, fleet_outcome, loading_of, unknown_loading, rating_of, unknown_rating}
 use Rattle.classes.specs.Calls.{cut_rating_of, page_of, unknown_page, difference_of, unknown_difference}
@@ -47,17 +42,17 @@ infixl 20 ◌then◌
 f then g = (λ a. g.0 (f.0 a), λ c. f.1 (g.1 c))
 
 decided : (o : engine-outcome.Outcome) → Decided (engine_outcome o)
-decided engine-outcome.TheVariants.Accepted = inl refl
-decided (engine-outcome.TheVariants.Refused r) = inr (refusal.TheVariants.Engine r, refl)
+decided engine-outcome.Accepted = inl refl
+decided (engine-outcome.Refused r) = inr (refusal.TheVariants.Engine r, refl)
 
 -- a refused load leaves the engine, and so the classes
-left-kept : (d : Classes) (k : ℕ) (l : Loading) → ((q : engine.Refusal) → l.outcome ≡ engine-outcome.TheVariants.Refused q → l.engine ≡ engine_at d k)
+left-kept : (d : Classes) (k : ℕ) (l : Loading) → ((q : engine.Refusal) → l.outcome ≡ engine-outcome.Refused q → l.engine ≡ engine_at d k)
     → (r : Refusal) → engine_outcome l.outcome ≡ Refused r → with_engine d k l.engine ≡ d
 left-kept d k l kept r h = let w = was-refused l.outcome r h in ap (with_engine d k) (kept w.own w.outcome) ∙ put-kept d k
 
 -- numbers of the engine's calls
 engine-numbers : (o : engine-outcome.Outcome) (ns : List ℕ)
-    → ((q : engine.Refusal) → o ≡ engine-outcome.TheVariants.Refused q → Memᴰ (number_of (refusal.TheVariants.Engine q)) ns)
+    → ((q : engine.Refusal) → o ≡ engine-outcome.Refused q → Memᴰ (number_of (refusal.TheVariants.Engine q)) ns)
     → (r : Refusal) → engine_outcome o ≡ Refused r → Memᴰ (number_of r) ns
 engine-numbers o ns n r h = let w = was-refused o r h in rw (← w.is) (n w.own w.outcome)
 
@@ -70,7 +65,7 @@ module _ (d : Classes) (k : ℕ) (c : is_class k ≡ true) where
   left : (x : ClassLoading) (l : Loading) → x ≡ loading_of d k l → engine_at x.classes k ≡ l.engine
   left x l p = ap (λ (y : ClassLoading). engine_at y.classes k) p ∙ put_same d k l.engine c
 
-  accepted : (x : ClassLoading) (l : Loading) → x ≡ loading_of d k l → x.outcome ≡ Accepted → l.outcome ≡ engine-outcome.TheVariants.Accepted
+  accepted : (x : ClassLoading) (l : Loading) → x ≡ loading_of d k l → x.outcome ≡ Accepted → l.outcome ≡ engine-outcome.Accepted
   accepted x l p h = was-accepted l.outcome (sym (ap (λ (y : ClassLoading). y.outcome) p) ∙ h)
 
   not-empty : (s : List ℕ) (xs : List ℤ) → (class_loaded d k s).outcome ≡ Accepted
@@ -165,11 +160,11 @@ module _ (d : Classes) (k : ℕ) (l : Loading) where
   load-unknown : UnknownClass k (cond (is_class k) (loading_of d k l) (unknown_loading d)).outcome
   load-unknown = unknown-if load-outcome (loading_of d k l) (unknown_loading d) refl (is_class k) (engine-own l.outcome)
 
-  load-numbered : (ns : List ℕ) → ((q : engine.Refusal) → l.outcome ≡ engine-outcome.TheVariants.Refused q → Memᴰ (number_of (refusal.TheVariants.Engine q)) ns)
+  load-numbered : (ns : List ℕ) → ((q : engine.Refusal) → l.outcome ≡ engine-outcome.Refused q → Memᴰ (number_of (refusal.TheVariants.Engine q)) ns)
       → (r : Refusal) → (cond (is_class k) (loading_of d k l) (unknown_loading d)).outcome ≡ Refused r → Memᴰ (number_of r) (21 ∷ ns)
   load-numbered ns n = numbers-if load-outcome (loading_of d k l) (unknown_loading d) refl (is_class k) ns (engine-numbers l.outcome ns n)
 
-  load-left : ((q : engine.Refusal) → l.outcome ≡ engine-outcome.TheVariants.Refused q → l.engine ≡ engine_at d k)
+  load-left : ((q : engine.Refusal) → l.outcome ≡ engine-outcome.Refused q → l.engine ≡ engine_at d k)
       → (r : Refusal) → (cond (is_class k) (loading_of d k l) (unknown_loading d)).outcome ≡ Refused r
       → (cond (is_class k) (loading_of d k l) (unknown_loading d)).classes ≡ d
   load-left kept =

@@ -5,13 +5,13 @@ use mathlib.Core.List.{Memᴰ}
 use mathlib.Core.Path.{◌≡◌, refl, ap}
 use native.Mathlib.Omega.{arith}
 use Rattle.engine.specs.declared.Engine.{Engine}
-use Rattle.margin.specs.declared.Edge as margin
+use Rattle.margin.specs.InFull as margin
 use Rattle.margin.specs.Edge.{edge_numbers, edge_for}
 use Rattle.margin.proofs.Exchange.{exchange-edge}
 use Rattle.margin.proofs.Numbered.{numbered}
 use Rattle.classes.specs.declared.Refusal.{Refusal}
 use Rattle.classes.specs.declared.Refusal.TheVariants as refusal
-use Rattle.classes.specs.declared.Outcome.TheVariants.{Refused}
+use Rattle.classes.specs.InFull.{Refused}
 use Rattle.classes.specs.Classes.{is_class, engine_at}
 use Rattle.classes.specs.Calls.{number_of, edge_answer, unknown_edge, class_edge}
 use Rattle.classes.specs.Edge.{edge_outcome, ClassEdges}
@@ -21,14 +21,14 @@ use Rattle.classes.proofs.Exchange.{same_if}
 use Rattle.classes.proofs.Outcomes.{not-both, Own, unknown-if, numbers-if}
 
 edge-own : (x : margin.Edge) → Own (edge_outcome (edge_answer x))
-edge-own (margin.TheVariants.Widen i w) h = not-both h
-edge-own margin.TheVariants.Nowhere h = not-both h
-edge-own (margin.TheVariants.Refused r) h = let z : ◌≡◌ {A = ℕ} 0 1 = cc in omega arith
+edge-own (margin.Widen i w) h = not-both h
+edge-own margin.Nowhere h = not-both h
+edge-own (margin.Refused r) h = let z : ◌≡◌ {A = ℕ} 0 1 = cc in omega arith
 
 edge-numbers : (x : margin.Edge) (r : Refusal) → edge_outcome (edge_answer x) ≡ Refused r → Memᴰ (number_of r) edge_numbers
-edge-numbers (margin.TheVariants.Widen i w) r h = not-both h
-edge-numbers margin.TheVariants.Nowhere r h = not-both h
-edge-numbers (margin.TheVariants.Refused q) r h = let e : refusal.Edge q ≡ r = cc in rw (← e) (numbered q)
+edge-numbers (margin.Widen i w) r h = not-both h
+edge-numbers margin.Nowhere r h = not-both h
+edge-numbers (margin.Refused q) r h = let e : refusal.Edge q ≡ r = cc in rw (← e) (numbered q)
 
 pub class-edges : ClassEdges
 unfolding class_edge

@@ -3,7 +3,7 @@ use Prim.Native.Nat.{ℕ}
 use mathlib.Core.Bool.{Bool, true, false, cond}
 use mathlib.Core.Path.{◌≡◌, refl, ap}
 use native.Mathlib.Decide.{ℕ_discrete}
-use Rattle.engine.specs.declared.Loading.{Loading}
+use Rattle.engine.specs.InFull.{Loading}
 use Rattle.engine.specs.Engine.{loaded_of}
 use Rattle.engine.specs.Exchange.{LoadingAlike}
 use Rattle.engine.proofs.Exchange.{exchange-calls}

@@ -9,18 +9,17 @@ use Rattle.codelist.specs.declared.Refusal as codelist
 use Rattle.rules.specs.declared.Refusal as rules
 use Rattle.formulas.specs.declared.Refusal as formulas
 use Rattle.engine.specs.declared.Refusal as engine
-use Rattle.engine.specs.declared.Outcome as engine-outcome
+use Rattle.engine.specs.InFull as engine-outcome
 use Rattle.engine.specs.Engine as Engine
 use Rattle.engine.specs.Refusals as engines
 use Rattle.boats.specs.declared.Refusal as boats
-use Rattle.boats.specs.declared.Outcome as fleet-outcome
+use Rattle.boats.specs.InFull as fleet-outcome
 use Rattle.bisection.specs.declared.Refusal as bisection
-use Rattle.bisection.specs.declared.Outcome as cut-outcome
+use Rattle.bisection.specs.InFull as cut-outcome
 use Rattle.margin.specs.declared.Refusal as margin
 use Rattle.classes.specs.declared.Refusal as refusal
 use Rattle.classes.specs.declared.Refusal.{Refusal}
-use Rattle.classes.specs.declared.Outcome.{Outcome}
-use Rattle.classes.specs.declared.Outcome.TheVariants.{Accepted, Refused}
+use Rattle.classes.specs.InFull.{Outcome, Accepted, Refused}
 use Rattle.classes.specs.Calls.{number_of, place_of, engine_outcome, cut_outcome, fleet_outcome}
 use Rattle.classes.specs.Demands.{RefusedWith}
 
@@ -29,9 +28,9 @@ pub not-both : {A : Type 0} {r : Refusal} → Accepted ≡ Refused r → A
 not-both e = let z : ◌≡◌ {A = ℕ} 0 1 = cc in absurd (omega arith)
 
 -- ---- the engine's outcomes
-pub was-accepted : (o : engine-outcome.Outcome) → engine_outcome o ≡ Accepted → o ≡ engine-outcome.TheVariants.Accepted
-was-accepted engine-outcome.TheVariants.Accepted h = refl
-was-accepted (engine-outcome.TheVariants.Refused r) h = not-both (sym h)
+pub was-accepted : (o : engine-outcome.Outcome) → engine_outcome o ≡ Accepted → o ≡ engine-outcome.Accepted
+was-accepted engine-outcome.Accepted h = refl
+was-accepted (engine-outcome.Refused r) h = not-both (sym h)
 
 -- a refusal is one of the call's own
 pub record WasRefused {O Q : Type 0} (refused : Q → O) (wrapped : Q → Refusal) (o : O) (r : Refusal) : Type 0 where
@@ -40,20 +39,20 @@ pub record WasRefused {O Q : Type 0} (refused : Q → O) (wrapped : Q → Refusa
   pub is : wrapped own ≡ r
 
 abbrev pub EngineRefused : engine-outcome.Outcome → Refusal → Type 0
-EngineRefused = WasRefused engine-outcome.TheVariants.Refused refusal.TheVariants.Engine
+EngineRefused = WasRefused engine-outcome.Refused refusal.TheVariants.Engine
 
 pub was-refused : (o : engine-outcome.Outcome) (r : Refusal) → engine_outcome o ≡ Refused r → EngineRefused o r
-was-refused engine-outcome.TheVariants.Accepted r h = not-both h
-was-refused (engine-outcome.TheVariants.Refused q) r h = record { own = q; outcome = refl; is = cc }
+was-refused engine-outcome.Accepted r h = not-both h
+was-refused (engine-outcome.Refused q) r h = record { own = q; outcome = refl; is = cc }
 
-pub cut-refused : (o : cut-outcome.Outcome) (r : Refusal) → cut_outcome o ≡ Refused r → WasRefused cut-outcome.TheVariants.Refused refusal.TheVariants.Cut o r
-cut-refused cut-outcome.TheVariants.Accepted r h = not-both h
-cut-refused (cut-outcome.TheVariants.Refused q) r h = record { own = q; outcome = refl; is = cc }
+pub cut-refused : (o : cut-outcome.Outcome) (r : Refusal) → cut_outcome o ≡ Refused r → WasRefused cut-outcome.Refused refusal.TheVariants.Cut o r
+cut-refused cut-outcome.Accepted r h = not-both h
+cut-refused (cut-outcome.Refused q) r h = record { own = q; outcome = refl; is = cc }
 
 pub fleet-refused : (o : fleet-outcome.Outcome) (r : Refusal) → fleet_outcome o ≡ Refused r
-    → WasRefused fleet-outcome.TheVariants.Refused refusal.TheVariants.Fleet o r
-fleet-refused fleet-outcome.TheVariants.Reported r h = not-both h
-fleet-refused (fleet-outcome.TheVariants.Refused q) r h = record { own = q; outcome = refl; is = cc }
+    → WasRefused fleet-outcome.Refused refusal.TheVariants.Fleet o r
+fleet-refused fleet-outcome.Reported r h = not-both h
+fleet-refused (fleet-outcome.Refused q) r h = record { own = q; outcome = refl; is = cc }
 
 -- exactly with the engine's own number and place
 pub refused-with : (o : engine-outcome.Outcome) (n p : ℕ) → RefusedWith (engine_outcome o) n p ↔ engines.RefusedWith o n p
@@ -71,13 +70,13 @@ refused-with o n p = (
 
 -- exactly by the engine's own refusal
 pub refused-by : (o : engine-outcome.Outcome) (q : engine.Refusal)
-    → (engine_outcome o ≡ Refused (refusal.TheVariants.Engine q)) ↔ (o ≡ engine-outcome.TheVariants.Refused q)
+    → (engine_outcome o ≡ Refused (refusal.TheVariants.Engine q)) ↔ (o ≡ engine-outcome.Refused q)
 refused-by o q = (λ h. go (was-refused o _ h), λ h. ap engine_outcome h)
   where
-    go : EngineRefused o (refusal.TheVariants.Engine q) → o ≡ engine-outcome.TheVariants.Refused q
-    go w = let e : w.own ≡ q = cc w.is in w.outcome ∙ ap engine-outcome.TheVariants.Refused e
+    go : EngineRefused o (refusal.TheVariants.Engine q) → o ≡ engine-outcome.Refused q
+    go w = let e : w.own ≡ q = cc w.is in w.outcome ∙ ap engine-outcome.Refused e
 
-pub accepted-by : (o : engine-outcome.Outcome) → (engine_outcome o ≡ Accepted) ↔ (o ≡ engine-outcome.TheVariants.Accepted)
+pub accepted-by : (o : engine-outcome.Outcome) → (engine_outcome o ≡ Accepted) ↔ (o ≡ engine-outcome.Accepted)
 accepted-by o = (was-accepted o, λ h. ap engine_outcome h)
 
 -- ---- no call has 21 of its own
@@ -118,16 +117,16 @@ abbrev pub Own : Outcome → Type 0
 Own o = ¬ (o ≡ Refused refusal.TheVariants.Class)
 
 pub engine-own : (o : engine-outcome.Outcome) → Own (engine_outcome o)
-engine-own engine-outcome.TheVariants.Accepted h = not-both h
-engine-own (engine-outcome.TheVariants.Refused r) h = let z : ◌≡◌ {A = ℕ} 0 1 = cc in omega arith
+engine-own engine-outcome.Accepted h = not-both h
+engine-own (engine-outcome.Refused r) h = let z : ◌≡◌ {A = ℕ} 0 1 = cc in omega arith
 
 pub cut-own : (o : cut-outcome.Outcome) → Own (cut_outcome o)
-cut-own cut-outcome.TheVariants.Accepted h = not-both h
-cut-own (cut-outcome.TheVariants.Refused r) h = let z : ◌≡◌ {A = ℕ} 0 1 = cc in omega arith
+cut-own cut-outcome.Accepted h = not-both h
+cut-own (cut-outcome.Refused r) h = let z : ◌≡◌ {A = ℕ} 0 1 = cc in omega arith
 
 pub fleet-own : (o : fleet-outcome.Outcome) → Own (fleet_outcome o)
-fleet-own fleet-outcome.TheVariants.Reported h = not-both h
-fleet-own (fleet-outcome.TheVariants.Refused r) h = let z : ◌≡◌ {A = ℕ} 0 1 = cc in omega arith
+fleet-own fleet-outcome.Reported h = not-both h
+fleet-own (fleet-outcome.Refused r) h = let z : ◌≡◌ {A = ℕ} 0 1 = cc in omega arith
 
 -- ---- a call whose answer is x where the number is a class's, and else u, which is refused for that
 module _ {A : Type 0} (f : A → Outcome) (x u : A) (is : f u ≡ Refused refusal.TheVariants.Class) where

@@ -2,12 +2,12 @@
 -- the proof is in proofs/Apart.antt.
 use Rattle.std.specs.Prelude.{true, false, cond, List, [], ◌∷◌, ◌≡◌, ℕ, eqb, ℤ}
 use Rattle.codelist.specs.declared.Codelist.{Codelist}
-use Rattle.codelist.specs.declared.Loaded.{Loaded}
-use Rattle.codelist.specs.declared.Outcome as loading
+use Rattle.codelist.specs.InFull.{Loaded}
+use Rattle.codelist.specs.InFull as loading
 use Rattle.codelist.specs.Load as Load
 use Rattle.formulas.specs.Load.{Given, given, refused, formula_of}
 use Rattle.classes.specs.declared.Classes.{Classes}
-use Rattle.classes.specs.declared.ClassLoading.{ClassLoading}
+use Rattle.classes.specs.InFull.{ClassLoading}
 use Rattle.classes.specs.Classes.{is_class, empty_classes, engine_at, codelist_at}
 use Rattle.classes.specs.Calls.{class_loaded, class_formula, class_rated, class_cut, class_fleet, class_fleet_of_numbers, class_sisters}
 
@@ -38,8 +38,8 @@ after_all d (l ∷ ls) = after_all (after d l) ls
 
 -- the codelist of an accepted load before others
 abbrev pub accepted_before : loading.Outcome → Codelist → List Codelist → List Codelist
-accepted_before loading.TheVariants.Accepted c cs = c ∷ cs
-accepted_before (loading.TheVariants.Refused r) c cs = cs
+accepted_before loading.Accepted c cs = c ∷ cs
+accepted_before (loading.Refused r) c cs = cs
 
 abbrev pub given_before : Given Loaded → List Codelist → List Codelist
 given_before (given l) cs = accepted_before l.outcome l.codelist cs

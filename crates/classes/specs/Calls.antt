@@ -1,39 +1,37 @@
 -- The calls by class number. 02, request 13: "each loaded and rated by its class number 1 to 4", "a class number outside 1 to 4 gets 21 with place 0, before
 -- everything else". Every call that reads or writes an engine takes one: it is the engine's call on the engine of that class, so that its 10 "now means an
 -- empty class".
-use Rattle.std.specs.Prelude.{cond, List, ◌∷◌, ℕ, ℤ, pos}
+use Rattle.std.specs.Prelude.{cond, List, ◌∷◌, ℕ, ℤ, pos, Option, Some, None, Result, Ok, Err}
 use Rattle.codelist.specs.Load.{load_numbers}
+use Rattle.range.specs.declared.Range.{Range}
+use Rattle.rules.specs.declared.Limits.{Limits}
 use Rattle.rules.specs.Rate.{rate_numbers, no_limits}
 use Rattle.formulas.specs.Load.{formula_numbers}
-use Rattle.engine.specs.declared.Loading.{Loading}
-use Rattle.engine.specs.declared.Outcome as engine-outcome
-use Rattle.engine.specs.declared.Rating.{Rating}
+use Rattle.engine.specs.InFull.{Loading, Rating}
+use Rattle.engine.specs.InFull as engine-outcome
 use Rattle.engine.specs.Engine as Engine
 use Rattle.engine.specs.Engine.{loaded_of, formula_loaded_of, rated_of}
-use Rattle.boats.specs.declared.Counted.{Counted}
-use Rattle.boats.specs.declared.Outcome as fleet-outcome
+use Rattle.boats.specs.InFull.{Counted}
+use Rattle.boats.specs.InFull as fleet-outcome
+use Rattle.boats.specs.declared.Report.{Report}
 use Rattle.boats.specs.Fleet as Fleet
 use Rattle.boats.specs.Fleet.{fleet_numbers, fleet_of, fleet_of_numbers, no_report}
-use Rattle.bisection.specs.declared.Bisected.{Bisected}
-use Rattle.bisection.specs.declared.Outcome as cut-outcome
+use Rattle.bisection.specs.InFull.{Bisected}
+use Rattle.bisection.specs.InFull as cut-outcome
 use Rattle.bisection.specs.Cut as Cut
 use Rattle.bisection.specs.Cut.{cut_numbers, cut_of}
-use Rattle.increments.specs.declared.Difference.{Difference}
+use Rattle.increments.specs.InFull.{Difference}
 use Rattle.increments.specs.Call.{sisters_of}
-use Rattle.margin.specs.declared.Edge as margin
+use Rattle.margin.specs.InFull as margin
+use Rattle.margin.specs.declared.Widening.{Widening}
 use Rattle.margin.specs.Edge as Edge
 use Rattle.margin.specs.Edge.{edge_numbers, edge_for}
 use Rattle.classes.specs.declared.Classes.{Classes}
 use Rattle.classes.specs.declared.Refusal as refusal
 use Rattle.classes.specs.declared.Refusal.{Refusal}
-use Rattle.classes.specs.declared.Outcome.{Outcome}
-use Rattle.classes.specs.declared.Outcome.TheVariants.{Accepted, Refused}
-use Rattle.classes.specs.declared.ClassLoading.{ClassLoading}
-use Rattle.classes.specs.declared.ClassRating.{ClassRating}
-use Rattle.classes.specs.declared.ClassFleet.{ClassFleet}
-use Rattle.classes.specs.declared.ClassDifference.{ClassDifference}
-use Rattle.classes.specs.declared.ClassEdge.{ClassEdge}
-use Rattle.classes.specs.declared.ClassEdge.TheVariants as edge
+use Rattle.classes.specs.InFull.{Outcome, Accepted, Refused, ClassLoading, ClassRating, ClassFleet, ClassDifference}
+use Rattle.classes.specs.EdgeInFull.{ClassEdge}
+use Rattle.classes.specs.EdgeInFull as edge
 use Rattle.classes.specs.Classes.{is_class, engine_at, with_engine}
 
 -- ════ refusals ════
@@ -74,16 +72,16 @@ class_edge_numbers = 21 ∷ edge_numbers
 
 -- the outcomes of the engine's calls, of cut ratings and of pages
 abbrev pub engine_outcome : engine-outcome.Outcome → Outcome
-engine_outcome engine-outcome.TheVariants.Accepted = Accepted
-engine_outcome (engine-outcome.TheVariants.Refused r) = Refused (refusal.TheVariants.Engine r)
+engine_outcome engine-outcome.Accepted = Accepted
+engine_outcome (engine-outcome.Refused r) = Refused (refusal.TheVariants.Engine r)
 
 abbrev pub cut_outcome : cut-outcome.Outcome → Outcome
-cut_outcome cut-outcome.TheVariants.Accepted = Accepted
-cut_outcome (cut-outcome.TheVariants.Refused r) = Refused (refusal.TheVariants.Cut r)
+cut_outcome cut-outcome.Accepted = Accepted
+cut_outcome (cut-outcome.Refused r) = Refused (refusal.TheVariants.Cut r)
 
 abbrev pub fleet_outcome : fleet-outcome.Outcome → Outcome
-fleet_outcome fleet-outcome.TheVariants.Reported = Accepted
-fleet_outcome (fleet-outcome.TheVariants.Refused r) = Refused (refusal.TheVariants.Fleet r)
+fleet_outcome fleet-outcome.Reported = Accepted
+fleet_outcome (fleet-outcome.Refused r) = Refused (refusal.TheVariants.Fleet r)
 
 -- ════ loading ════
 
@@ -149,12 +147,35 @@ class_sisters d k xs bs = cond (is_class k) (difference_of (sisters_of (engine_a
 
 -- the nearest edge (request 14)
 abbrev pub edge_answer : margin.Edge → ClassEdge
-edge_answer (margin.TheVariants.Widen i w) = edge.Widen i w
-edge_answer margin.TheVariants.Nowhere = edge.Nowhere
-edge_answer (margin.TheVariants.Refused r) = edge.Refused (refusal.TheVariants.Edge r)
+edge_answer (margin.Widen i w) = edge.Widen i w
+edge_answer margin.Nowhere = edge.Nowhere
+edge_answer (margin.Refused r) = edge.Refused (refusal.TheVariants.Edge r)
 
 abbrev pub unknown_edge : ClassEdge
 unknown_edge = edge.Refused refusal.TheVariants.Class
 
 unfoldable pub class_edge : Classes → ℕ → List ℤ → ℤ → ClassEdge
 class_edge d k xs ceiling = cond (is_class k) (edge_answer (edge_for (engine_at d k) xs ceiling)) unknown_edge
+
+-- ════ the code's answers in full ════
+
+abbrev pub loading_in_full : Result Unit Refusal → Classes → ClassLoading
+loading_in_full (Ok _) d = record { outcome = Accepted; classes = d }
+loading_in_full (Err r) d = record { outcome = Refused r; classes = d }
+
+abbrev pub rating_in_full : Result Limits Refusal → ClassRating
+rating_in_full (Ok l) = record { outcome = Accepted; limits = l }
+rating_in_full (Err r) = record { outcome = Refused r; limits = no_limits }
+
+abbrev pub page_in_full : Result Report Refusal → ClassFleet
+page_in_full (Ok p) = record { outcome = Accepted; report = p }
+page_in_full (Err r) = record { outcome = Refused r; report = no_report }
+
+abbrev pub difference_in_full : Result Range Refusal → ClassDifference
+difference_in_full (Ok x) = record { outcome = Accepted; low = x.low; high = x.high }
+difference_in_full (Err r) = record { outcome = Refused r; low = pos 0; high = pos 0 }
+
+abbrev pub edge_in_full : Result (Option Widening) Refusal → ClassEdge
+edge_in_full (Ok (Some w)) = edge.Widen w.factor w.units
+edge_in_full (Ok None) = edge.Nowhere
+edge_in_full (Err r) = edge.Refused r

@@ -36,8 +36,7 @@ use Rattle.increments.specs.Call.{sisters_of}
 use Rattle.classes.specs.declared.Classes.{Classes}
 use Rattle.classes.specs.declared.Refusal.{Refusal}
 use Rattle.classes.specs.declared.Refusal.TheVariants.{Engine}
-use Rattle.classes.specs.declared.Outcome.{Outcome}
-use Rattle.classes.specs.declared.Outcome.TheVariants.{Accepted, Refused}
+use Rattle.classes.specs.InFull.{Outcome, Accepted, Refused}
 use Rattle.classes.specs.Classes.{is_class, empty_classes, engine_at, codelist_at}
 use Rattle.classes.specs.Calls.{number_of, place_of, class_load_numbers, class_formula_numbers, class_rate_numbers, class_cut_numbers, class_fleet_numbers}
 use Rattle.classes.specs.Calls.{rating_of, cut_rating_of, page_of, difference_of}

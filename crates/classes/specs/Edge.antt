@@ -5,10 +5,9 @@ use mathlib.Core.List.{List, Memᴰ}
 use Rattle.margin.specs.Edge.{edge_for}
 use Rattle.classes.specs.declared.Classes.{Classes}
 use Rattle.classes.specs.declared.Refusal.{Refusal}
-use Rattle.classes.specs.declared.Outcome.{Outcome}
-use Rattle.classes.specs.declared.Outcome.TheVariants.{Accepted, Refused}
-use Rattle.classes.specs.declared.ClassEdge.{ClassEdge}
-use Rattle.classes.specs.declared.ClassEdge.TheVariants as edge
+use Rattle.classes.specs.InFull.{Outcome, Accepted, Refused}
+use Rattle.classes.specs.EdgeInFull.{ClassEdge}
+use Rattle.classes.specs.EdgeInFull as edge
 use Rattle.classes.specs.Classes.{is_class, engine_at}
 use Rattle.classes.specs.Calls.{number_of, class_edge_numbers, edge_answer, class_edge}
 use Rattle.classes.specs.Apart.{ClassLoad, class_of, after}

@@ -2,20 +2,24 @@
 // with the class number before its other parameters; another number than 1 to 4 is refused with 21, before everything else.
 #![tactic(auto)]
 
-ghost use Rattle.std.specs.Prelude.{◌≡◌};
+ghost use Rattle.std.specs.Prelude.{◌≡◌, MatchResult};
+ghost use Rattle.std.specs.Borrow.{sem};
 ghost use Rattle.boats.specs.Boats.{numbers_of};
 ghost use Rattle.classes.specs.Classes.{is_class, empty_classes};
+ghost use Rattle.classes.specs.Found.{IsEngineOf, HasNoEngine, LendsEngine};
 ghost use Rattle.classes.specs.Calls.{number_of, place_of, class_loaded, class_formula, class_rated};
 ghost use Rattle.classes.specs.Calls.{class_cut, class_fleet, class_fleet_of_numbers, class_sisters, class_edge};
+ghost use Rattle.classes.specs.Calls.{loading_in_full, rating_in_full, page_in_full, difference_in_full, edge_in_full};
+ghost use Rattle.classes.specs.declared.Refusal.TheVariants.{Engine, Cut, Fleet, Edge};
 
 use boats::{Boat, Report};
 use engine::Engine;
+use margin::Widening;
+use range::Range;
 use rules::Limits;
 
-mod answers; // answers.rt: what an engine's call gave, as the answer of a class
-mod engines; // engines.rt: the engine of a class number
-
-// Classes 1 to 4 in this order, each empty or with a codelist.
+// Classes 1 to 4 in this order, each empty or with a codelist. Fields and no array: in the specifications an array is a list of any length, and
+// `loaded-written`, by which an accepted load is found in its class, is false of a shorter one.
 #[derive(Clone, Copy)]
 pub struct Classes {
     pub first: Engine,
@@ -24,7 +28,7 @@ pub struct Classes {
     pub fourth: Engine,
 }
 
-#[derive(Clone, Copy)]
+#[derive(Clone, Copy, PartialEq, Eq)]
 pub enum Refusal {
     // 21: the number is no class's
     Class,
@@ -35,47 +39,36 @@ pub enum Refusal {
     Edge(margin::Refusal),
 }
 
-#[derive(Clone, Copy)]
-pub enum Outcome {
-    Accepted,
-    Refused(Refusal),
+impl From<engine::Refusal> for Refusal {
+    ghost from_gives = { λ r e. e ≡ Engine r };
+
+    fn from(r: engine::Refusal) -> Self {
+        Self::Engine(r)
+    }
 }
 
-// What loading gives: after a refusal all four classes are what they were.
-#[derive(Clone, Copy)]
-pub struct ClassLoading {
-    pub outcome: Outcome,
-    pub classes: Classes,
+impl From<bisection::Refusal> for Refusal {
+    ghost from_gives = { λ r e. e ≡ Cut r };
+
+    fn from(r: bisection::Refusal) -> Self {
+        Self::Cut(r)
+    }
 }
 
-// What rating gives, cut or not: after a refusal every field of the limits is 0.
-#[derive(Clone, Copy)]
-pub struct ClassRating {
-    pub outcome: Outcome,
-    pub limits: Limits,
+impl From<boats::Refusal> for Refusal {
+    ghost from_gives = { λ r e. e ≡ Fleet r };
+
+    fn from(r: boats::Refusal) -> Self {
+        Self::Fleet(r)
+    }
 }
 
-// A fleet page: after a refusal every figure is 0.
-#[derive(Clone, Copy)]
-pub struct ClassFleet {
-    pub outcome: Outcome,
-    pub report: Report,
-}
+impl From<margin::Refusal> for Refusal {
+    ghost from_gives = { λ r e. e ≡ Edge r };
 
-// How far apart the premiums of two boats may be: after a refusal both ends are 0.
-#[derive(Clone, Copy)]
-pub struct ClassDifference {
-    pub outcome: Outcome,
-    pub low: i64,
-    pub high: i64,
-}
-
-// How near the edge a class is: the factor and the units, as of `margin`.
-#[derive(Clone, Copy)]
-pub enum ClassEdge {
-    Widen(u8, u8),
-    Nowhere,
-    Refused(Refusal),
+    fn from(r: margin::Refusal) -> Self {
+        Self::Edge(r)
+    }
 }
 
 impl Refusal {
@@ -107,123 +100,120 @@ impl Refusal {
 }
 
 // Whether the number is a class's.
+#[tactic(auto, unfolding(crate::specs::Classes::is_class))]
 pub fn is_class(class: u64) -> bool
     ensures { result ≡ is_class class }
 {
-    (1 <= class) & (class <= 4)
+    (1..=4).contains(&class)
 }
 
 impl Classes {
     // Four empty classes.
-    pub fn new() -> Classes
+    #[tactic(auto, unfolding(crate::specs::Classes::empty_classes))]
+    pub fn new() -> Self
         ensures { result ≡ empty_classes }
     {
-        let e = Engine::new();
-        Classes {
-            first: e,
-            second: e,
-            third: e,
-            fourth: e,
+        let empty = Engine::new();
+        Self {
+            first: empty,
+            second: empty,
+            third: empty,
+            fourth: empty,
         }
     }
 
-    // A class with the codelist of a text, or the refusal and the classes as they were.
-    pub fn load(self, class: u64, bytes: &[u8]) -> ClassLoading
-        ensures { result ≡ class_loaded self class bytes.now }
+    // The engine of a class, where it lies.
+    #[tactic(auto, unfolding(crate::specs::Classes::is_class, crate::specs::Classes::engine_at))]
+    fn engine(&self, class: u64) -> Result<&Engine, Refusal>
+        ensures { MatchResult result (λ e. IsEngineOf self.now class e.now) (λ r. HasNoEngine class r) }
     {
-        if is_class(class) {
-            let e = engines::pick(self, class);
-            answers::loading(self, class, e.load(bytes))
-        } else {
-            answers::unknown_loading(self)
+        match class {
+            1 => Ok(&self.first),
+            2 => Ok(&self.second),
+            3 => Ok(&self.third),
+            4 => Ok(&self.fourth),
+            _ => Err(Refusal::Class),
         }
+    }
+
+    // The same, to be loaded.
+    #[tactic(auto, unfolding(crate::specs::Classes::is_class, crate::specs::Classes::engine_at, crate::specs::Classes::with_engine))]
+    fn engine_mut(&mut self, class: u64) -> Result<&mut Engine, Refusal>
+        ensures* lends { sem 𝓛 (LendsEngine self.entry class result) }
+        ensures finds { MatchResult result (λ e. IsEngineOf self.old class e.now) (λ r. HasNoEngine class r) }
+    {
+        match class {
+            1 => Ok(&mut self.first),
+            2 => Ok(&mut self.second),
+            3 => Ok(&mut self.third),
+            4 => Ok(&mut self.fourth),
+            _ => Err(Refusal::Class),
+        }
+    }
+
+    // Loads the codelist of a text into a class. After a refusal all four classes are what they were.
+    #[tactic(auto, unfolding(crate::specs::Calls::class_loaded))]
+    pub fn load(&mut self, class: u64, bytes: &[u8]) -> Result<(), Refusal>
+        ensures { loading_in_full result self.new ≡ class_loaded self.old class bytes.now }
+    {
+        self.engine_mut(class)?.load(bytes)?;
+        Ok(())
     }
 
     // The same of a formula with a factor count.
-    pub fn load_formula(self, class: u64, text: &[u8], factors: u64) -> ClassLoading
-        ensures { result ≡ class_formula self class text.now factors }
+    #[tactic(auto, unfolding(crate::specs::Calls::class_formula))]
+    pub fn load_formula(&mut self, class: u64, text: &[u8], factors: u64) -> Result<(), Refusal>
+        ensures { loading_in_full result self.new ≡ class_formula self.old class text.now factors }
     {
-        if is_class(class) {
-            let e = engines::pick(self, class);
-            answers::loading(self, class, e.load_formula(text, factors))
-        } else {
-            answers::unknown_loading(self)
-        }
+        self.engine_mut(class)?.load_formula(text, factors)?;
+        Ok(())
     }
 
-    // The limits over the ranges, or the refusal. The engine is rated where it lies: picked into a variable first, it would be copied for each rating.
-    pub fn rate(self, class: u64, ranges: &[i64]) -> ClassRating
-        ensures { result ≡ class_rated self class ranges.now }
+    // The limits over the ranges, or the refusal.
+    #[tactic(auto, unfolding(crate::specs::Calls::class_rated))]
+    pub fn rate(self, class: u64, ranges: &[i64]) -> Result<Limits, Refusal>
+        ensures { rating_in_full result ≡ class_rated self class ranges.now }
     {
-        if class == 1 {
-            let e = self.first;
-            return answers::rating(e.rate(ranges));
-        }
-        if class == 2 {
-            let e = self.second;
-            return answers::rating(e.rate(ranges));
-        }
-        if class == 3 {
-            let e = self.third;
-            return answers::rating(e.rate(ranges));
-        }
-        if class == 4 {
-            let e = self.fourth;
-            return answers::rating(e.rate(ranges));
-        }
-        answers::unknown_rating()
+        Ok(self.engine(class)?.rate(ranges)?)
     }
 
     // The same, cut to a depth.
-    pub fn cut(self, class: u64, ranges: &[i64], depth: i64) -> ClassRating
-        ensures { result ≡ class_cut self class ranges.now depth }
+    #[tactic(auto, unfolding(crate::specs::Calls::class_cut))]
+    pub fn cut(self, class: u64, ranges: &[i64], depth: i64) -> Result<Limits, Refusal>
+        ensures { rating_in_full result ≡ class_cut self class ranges.now depth }
     {
-        if is_class(class) {
-            let e = engines::pick(self, class);
-            answers::cut(bisection::rate(e, ranges, depth))
-        } else {
-            answers::unknown_rating()
-        }
+        Ok(bisection::rate(*self.engine(class)?, ranges, depth)?)
     }
 
     // The page of records of eight numbers, one after another.
-    pub fn fleet(self, class: u64, numbers: &[i64]) -> ClassFleet
-        ensures { result ≡ class_fleet_of_numbers self class numbers.now }
+    #[tactic(auto, unfolding(crate::specs::Calls::class_fleet_of_numbers))]
+    pub fn fleet(self, class: u64, numbers: &[i64]) -> Result<Report, Refusal>
+        ensures { page_in_full result ≡ class_fleet_of_numbers self class numbers.now }
     {
-        let e = engines::pick(self, class);
-        answers::page_of(class, boats::of_numbers(e, numbers))
+        Ok(boats::of_numbers(*self.engine(class)?, numbers)?)
     }
 
     // Between which two numbers the second boat's premium less the first one's lies.
-    pub fn sisters(self, class: u64, ranges: &[i64], boats: &[i64]) -> ClassDifference
-        ensures { result ≡ class_sisters self class ranges.now boats.now }
+    #[tactic(auto, unfolding(crate::specs::Calls::class_sisters))]
+    pub fn sisters(self, class: u64, ranges: &[i64], boats: &[i64]) -> Result<Range, Refusal>
+        ensures { difference_in_full result ≡ class_sisters self class ranges.now boats.now }
     {
-        if is_class(class) {
-            let e = engines::pick(self, class);
-            answers::difference(increments::sisters(e, ranges, boats))
-        } else {
-            answers::unknown_difference()
-        }
+        Ok(increments::sisters(*self.engine(class)?, ranges, boats)?)
     }
 
-    // The smallest widening of one range's high end after which rating is refused or the value passes the ceiling.
-    pub fn edge(self, class: u64, ranges: &[i64], ceiling: i64) -> ClassEdge
-        ensures { result ≡ class_edge self class ranges.now ceiling }
+    // The smallest widening of one range's high end after which rating is refused or the value passes the ceiling, or none.
+    #[tactic(auto, unfolding(crate::specs::Calls::class_edge))]
+    pub fn edge(self, class: u64, ranges: &[i64], ceiling: i64) -> Result<Option<Widening>, Refusal>
+        ensures { edge_in_full result ≡ class_edge self class ranges.now ceiling }
     {
-        if is_class(class) {
-            let e = engines::pick(self, class);
-            answers::nearest(margin::nearest(e, ranges, ceiling))
-        } else {
-            answers::unknown_edge()
-        }
+        Ok(margin::nearest(*self.engine(class)?, ranges, ceiling)?)
     }
 }
 
-// The page of a lent list of boats: the class is tested by what makes the answer.
-pub fn fleet_of_boats(class: u64, classes: Classes, boats: &[Boat]) -> ClassFleet
-    ensures { result ≡ class_fleet classes class (numbers_of boats.now) }
+// The page of a lent list of boats.
+#[tactic(auto, unfolding(crate::specs::Calls::class_fleet))]
+pub fn fleet_of_boats(class: u64, classes: Classes, boats: &[Boat]) -> Result<Report, Refusal>
+    ensures { page_in_full result ≡ class_fleet classes class (numbers_of boats.now) }
 {
-    let e = engines::pick(classes, class);
-    let c = boats::of_boats(e, boats);
-    answers::page_of(class, c)
+    Ok(boats::of_boats(*classes.engine(class)?, boats)?)
 }

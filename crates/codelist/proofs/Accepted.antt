@@ -8,8 +8,8 @@ use native.Mathlib.Omega.{arith}
 use lib.ListN.{length, take, replicate, take-append-drop}
 use Rattle.codelist.specs.declared.Codelist.{Codelist}
 use Rattle.codelist.specs.declared.Entry.{Entry}
-use Rattle.codelist.specs.declared.Loaded.{Loaded}
-use Rattle.codelist.specs.declared.Outcome.TheVariants.{Accepted, Refused}
+use Rattle.codelist.specs.InFull.{Loaded}
+use Rattle.codelist.specs.InFull.{Accepted, Refused}
 use Rattle.codelist.specs.declared.Refusal.{Refusal}
 use Rattle.codelist.specs.declared.Year.{Year}
 use Rattle.codelist.specs.declared.Year.TheVariants.{Y2016, Y2014}

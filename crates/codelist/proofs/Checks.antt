@@ -7,7 +7,8 @@ use native.Mathlib.Omega.{arith}
 use lib.Dec.{leb}
 use lib.IntN.{ℤ, pos, negsuc, neg_ℤ, nat_abs}
 use borrow.Author.Tests.{le-leb, leb-true}
-use Rattle.codelist.specs.declared.loading.Checked.TheVariants.{Fine, Fault}
+use Rattle.std.specs.declared.result.Result.{Result}
+use Rattle.std.specs.declared.result.Result.TheVariants.{Ok, Err}
 use Rattle.codelist.specs.Text.{TextLine}
 use Rattle.codelist.specs.Text.{Add, Mul, AddC, MulC, Pow, Inv}
 use Rattle.codelist.specs.declared.Numeral.{Numeral}
@@ -118,7 +119,7 @@ pub cond-inv : {A : Type 0} (b : Bool) (x y z : A) → cond b x y ≡ z → ((b 
 cond-inv true x y z e = inl (refl, e)
 cond-inv false x y z e = inr (refl, e)
 
-pub check_sound : (p e : ℕ) (l : TextLine) (o : Op) → HasNumerals l → checked_of p e l ≡ Fine o → WellFormedOp e o × (l ≡ text_line_of o)
+pub check_sound : (p e : ℕ) (l : TextLine) (o : Op) → HasNumerals l → checked_of p e l ≡ Ok o → WellFormedOp e o × (l ≡ text_line_of o)
 unfolding checked_of
 check_sound p e l o f h =
     ⊎_elim
@@ -128,15 +129,15 @@ check_sound p e l o f h =
     (λ d. let g : op_of l ≡ o = cc d.1 in
     subst (λ (x : Op). WellFormedOp e x × (l ≡ text_line_of x)) g (keeps e l f a.0 b.0 c.0 d.0))
     (λ d. faulty _ d.1)
-    (cond-inv (multiplier_fits l) _ _ (Fine o) c.1))
+    (cond-inv (multiplier_fits l) _ _ (Ok o) c.1))
     (λ c. faulty _ c.1)
-    (cond-inv (constant_fits l) _ _ (Fine o) b.1))
+    (cond-inv (constant_fits l) _ _ (Ok o) b.1))
     (λ b. faulty _ b.1)
-    (cond-inv (exponent_fits l) _ _ (Fine o) a.1))
+    (cond-inv (exponent_fits l) _ _ (Ok o) a.1))
     (λ a. faulty _ a.1)
-    (cond-inv (refers_back e l) _ _ (Fine o) h)
+    (cond-inv (refers_back e l) _ _ (Ok o) h)
   where
-    faulty : {X : Type 0} (r : Refusal) → Fault r ≡ Fine o → X
+    faulty : {X : Type 0} (r : Refusal) → Err r ≡ Ok o → X
     faulty r q = absurd (let z : ◌≡◌ {A = ℕ} 0 1 = cc in omega arith)
 
 -- Which condition a fault is of
@@ -147,7 +148,7 @@ pub data Broken (p e : ℕ) (l : TextLine) : Refusal → Type 0 where
   broken-multiplier : refers_back e l ≡ true → exponent_fits l ≡ true → constant_fits l ≡ true → multiplier_fits l ≡ false
       → Broken p e l (ZeroMultiplier p)
 
-pub fault-sound : (p e : ℕ) (l : TextLine) (r : Refusal) → checked_of p e l ≡ Fault r → Broken p e l r
+pub fault-sound : (p e : ℕ) (l : TextLine) (r : Refusal) → checked_of p e l ≡ Err r → Broken p e l r
 unfolding checked_of
 fault-sound p e l r h =
     ⊎_elim
@@ -156,18 +157,18 @@ fault-sound p e l r h =
     (λ c. ⊎_elim
     (λ d. absurd (let q = d.1 in let z : ◌≡◌ {A = ℕ} 0 1 = cc q in omega arith))
     (λ d. told (ZeroMultiplier p) (broken-multiplier a.0 b.0 c.0 d.0) d.1)
-    (cond-inv (multiplier_fits l) _ _ (Fault r) c.1))
+    (cond-inv (multiplier_fits l) _ _ (Err r) c.1))
     (λ c. told (Constant p) (broken-constant a.0 b.0 c.0) c.1)
-    (cond-inv (constant_fits l) _ _ (Fault r) b.1))
+    (cond-inv (constant_fits l) _ _ (Err r) b.1))
     (λ b. told (Exponent p) (broken-exponent a.0 b.0) b.1)
-    (cond-inv (exponent_fits l) _ _ (Fault r) a.1))
+    (cond-inv (exponent_fits l) _ _ (Err r) a.1))
     (λ a. told (Reference p) (broken-reference a.0) a.1)
-    (cond-inv (refers_back e l) _ _ (Fault r) h)
+    (cond-inv (refers_back e l) _ _ (Err r) h)
   where
-    told : (x : Refusal) → Broken p e l x → Fault x ≡ Fault r → Broken p e l r
+    told : (x : Refusal) → Broken p e l x → ◌≡◌ {A = Result Op Refusal} (Err x) (Err r) → Broken p e l r
     told x b q = let g : x ≡ r = cc in subst (Broken p e l) g b
 
-pub fault-complete : (p e : ℕ) (l : TextLine) (r : Refusal) → Broken p e l r → checked_of p e l ≡ Fault r
+pub fault-complete : (p e : ℕ) (l : TextLine) (r : Refusal) → Broken p e l r → checked_of p e l ≡ Err r
 unfolding checked_of
 fault-complete p e l r (broken-reference a) = simp a
 fault-complete p e l r (broken-exponent a b) = simp (a, b)
@@ -193,7 +194,7 @@ module _ (p e : ℕ) (small : e ≤ 64) where
   multiplier-fits : (c : ℤ) → 1 ≤ nat_abs c → leb 1 (numeral_of c).magnitude ≡ true
   multiplier-fits c h = le-leb 1 (numeral_of c).magnitude (rw (abs-numeral c) h)
 
-  pub check-complete : (o : Op) → WellFormedOp e o → checked_of p e (text_line_of o) ≡ Fine o
+  pub check-complete : (o : Op) → WellFormedOp e o → checked_of p e (text_line_of o) ≡ Ok o
   unfolding checked_of refers_back exponent_fits constant_fits multiplier_fits
   check-complete (op.Add i j) (g, h) = simp (earlier i g, earlier j h)
   check-complete (op.Mul i j) (g, h) = simp (earlier i g, earlier j h)

@@ -8,12 +8,13 @@ use mathlib.Core.Path.{◌≡◌, refl, subst}
 use native.Mathlib.Omega.{arith}
 use lib.Dec.{leb}
 use lib.ListN.{length, replicate, length-append}
-use Rattle.codelist.specs.declared.loading.Checked.{Checked}
+use Rattle.std.specs.declared.result.Result.{Result}
 use Rattle.codelist.specs.declared.Codelist.{Codelist}
 use Rattle.codelist.specs.declared.Entry.{Entry}
-use Rattle.codelist.specs.declared.Loaded.{Loaded}
+use Rattle.codelist.specs.InFull.{Loaded}
 use Rattle.codelist.specs.declared.Numeral.{Numeral}
 use Rattle.codelist.specs.declared.Op.{Op}
+use Rattle.codelist.specs.declared.Refusal.{Refusal}
 use Rattle.codelist.specs.declared.Refusal.TheVariants.{TooLong, FactorCount}
 use Rattle.codelist.specs.declared.Year.{Year}
 use Rattle.codelist.specs.Codelist.{blank, WellFormedOps}
@@ -65,7 +66,7 @@ end-alike (whole (c ∷ l) v h) a b = b
 end-alike (swapped (add_line i j) n h) a b = b
 end-alike (swapped (mul_line i j) n h) a b = b
 
-checked-on : {a b : Checked} → CheckedAlike a b → (f g : Op → Loaded) → ((o u : Op) → ExchangedOp o u → LoadedAlike (f o) (g u))
+checked-on : {a b : Result Op Refusal} → CheckedAlike a b → (f g : Op → Loaded) → ((o u : Op) → ExchangedOp o u → LoadedAlike (f o) (g u))
     → LoadedAlike (on_checked a f) (on_checked b g)
 checked-on (fault r) f g k = same-loaded (refused r)
 checked-on (fine {o} {u} h) f g k = k o u h

@@ -3,8 +3,8 @@ use Prim.Native.Nat.{ℕ}
 use mathlib.Core.Bool.{Bool, true, false, cond, and_comm}
 use mathlib.Core.List.{List, ◌∷◌, ◌++◌}
 use mathlib.Core.Path.{◌≡◌, refl, sym, subst, ◌∙◌}
-use Rattle.codelist.specs.declared.loading.Checked.{Checked}
-use Rattle.codelist.specs.declared.loading.Checked.TheVariants.{Fine, Fault}
+use Rattle.std.specs.declared.result.Result.{Result}
+use Rattle.std.specs.declared.result.Result.TheVariants.{Ok, Err}
 use Rattle.codelist.specs.declared.Op.{Op}
 use Rattle.codelist.specs.declared.Refusal.{Refusal}
 use Rattle.codelist.specs.declared.Refusal.TheVariants.{Reference}
@@ -36,11 +36,11 @@ pub data LineAlike : TextLine → TextLine → Type 0 where
   same : (l : TextLine) → LineAlike l l
   other : {l m : TextLine} → ExchangedLine l m → LineAlike l m
 
-pub data CheckedAlike : Checked → Checked → Type 0 where
-  fault : (r : Refusal) → CheckedAlike (Fault r) (Fault r)
-  fine : {o u : Op} → ExchangedOp o u → CheckedAlike (Fine o) (Fine u)
+pub data CheckedAlike : Result Op Refusal → Result Op Refusal → Type 0 where
+  fault : (r : Refusal) → CheckedAlike (Err r) (Err r)
+  fine : {o u : Op} → ExchangedOp o u → CheckedAlike (Ok o) (Ok u)
 
-where-fine : (b : Bool) (r : Refusal) {o u : Op} → ExchangedOp o u → CheckedAlike (cond b (Fine o) (Fault r)) (cond b (Fine u) (Fault r))
+where-fine : (b : Bool) (r : Refusal) {o u : Op} → ExchangedOp o u → CheckedAlike (cond b (Ok o) (Err r)) (cond b (Ok u) (Err r))
 where-fine true r h = fine h
 where-fine false r h = fault r
 
@@ -49,9 +49,9 @@ pub checked-alike : (p e : ℕ) {l m : TextLine} → LineAlike l m → CheckedAl
 unfolding checked_of exponent_fits constant_fits multiplier_fits
 checked-alike p e (same l) = either (checked_of p e l)
   where
-    either : (x : Checked) → CheckedAlike x x
-    either (Fine o) = fine (kept o)
-    either (Fault r) = fault r
+    either : (x : Result Op Refusal) → CheckedAlike x x
+    either (Ok o) = fine (kept o)
+    either (Err r) = fault r
 checked-alike p e (other (add_line i j)) = rw (refers-alike e (add_line i j)) (where-fine (refers_back e (Add j i)) (Reference p) (op-alike (add_line i j)))
 checked-alike p e (other (mul_line i j)) = rw (refers-alike e (mul_line i j)) (where-fine (refers_back e (Mul j i)) (Reference p) (op-alike (mul_line i j)))
 

@@ -9,15 +9,17 @@ use native.Mathlib.Numerals.{add-one, sub-one}
 use native.Mathlib.Omega.{arith}
 use lib.Dec.{lit≤, leb}
 use lib.IntN.{ℤ}
-use lib.ListN.{length, get_or, drop, drop_of_length-le}
-use lib.Seq.{drop-cons}
+use lib.ListN.{length, get_or, drop}
 use lib.Signed.{mag}
 use mir.Facts.{to_z-of_z}
+use Rattle.std.proofs.lemmas.Bool.Decides.{nat_tests}
 use mir.Syntax.{w64}
 use mir.Val.{to_z, of_z}
-use borrow.Author.Tests.{lt-ltb, le-ltb, ne_eqb, eq-eqb, leb-true}
+use borrow.Author.Tests.{lt-ltb, leb-true}
 use Rattle.codelist.specs.declared.Numeral.{Numeral}
-use Rattle.codelist.specs.Read.{peek, rest, digit, digits, literal, good, bad}
+use Rattle.codelist.specs.Read.{peek, rest, digit, digits, good, bad}
+use Rattle.codelist.specs.Read.{Read}
+use Rattle.codelist.specs.Views.{next_digit}
 use Rattle.codelist.specs.Conditions.{is_between}
 use Rattle.codelist.specs.Load.{value_of, saturated}
 
@@ -43,10 +45,6 @@ inside [] (suc i) h = absurd (omega arith)
 inside (b ∷ s) zero h = omega arith
 inside (b ∷ s) (suc i) h = let g : i < length s = inside s i h in omega arith
 
--- where the byte e stands, the place is in the text
-pub byte_inside : (s : List ℕ) (i b e : ℕ) → b ≡ peek (drop i s) → b ≡ e → e < 256 → i < length s
-byte_inside s i b e p q h = inside s i (omega arith)
-
 rest-suc : (s : List ℕ) (i : ℕ) → rest (drop i s) ≡ drop (suc i) s
 unfolding rest
 rest-suc [] zero = refl
@@ -65,24 +63,6 @@ digit-inside s i d e h =
       | yes g ↦ g
       | no g ↦ absurd (let o : digit (peek (drop i s)) ≡ 10 = rw (peek-out s i (omega arith)) in omega arith)
     ]
-
--- One step of `digits`, as the loop takes it
-module _ (s : List ℕ) (at k m d : ℕ) (negative : Bool) (e : d ≡ digit (peek (drop at s))) where
-  pub digits-stop : 10 ≤ d → digits k negative m (drop at s) ≡ good (record { negative = negative; magnitude = m }) (drop at s)
-  unfolding digits
-  digits-stop h = go k
-    where
-      go : (j : ℕ) → digits j negative m (drop at s) ≡ good (record { negative = negative; magnitude = m }) (drop at s)
-      go zero = refl
-      go (suc j) = simp (← e, le-ltb d 10 h)
-
-  pub digits_more : 0 < k → d < 10 → digits (k - 1) negative (m * 10 + d) (drop (at + 1) s) ≡ digits k negative m (drop at s)
-  unfolding digits
-  digits_more p h = go k p
-    where
-      go : (j : ℕ) → 0 < j → digits (j - 1) negative (m * 10 + d) (drop (at + 1) s) ≡ digits j negative m (drop at s)
-      go zero q = absurd (omega arith)
-      go (suc j) q = simp (sub-one, ← e, lt-ltb d 10 h, rest-drop)
 
 -- k digits more keep the value below 10 ^ 10
 abbrev pub Roomy : ℕ → ℕ → Type 0
@@ -110,20 +90,6 @@ pub digits-none : (s : List ℕ) (k m : ℕ) (negative : Bool) → k ≤ 0 → g
 unfolding digits
 digits-none s zero m negative h = refl
 digits-none s (suc k) m negative h = absurd (omega arith)
-
--- One step of `literal`, as the loop takes it
-pub literal-none : (s w : List ℕ) (i : ℕ) → length w ≤ i → good tt s ≡ literal (drop i w) s
-unfolding literal
-literal-none s w i h = rw (drop_of_length-le w h)
-
-module _ (s w : List ℕ) (at i b c : ℕ) (h : i < length w) (p : b ≡ peek (drop at s)) (q : c ≡ get_or w i 0) where
-  pub literal-stop : (b ≡ c → ⊥) → bad ≡ literal (drop i w) (drop at s)
-  unfolding literal
-  literal-stop n = rw (drop-cons w i 0 h, ← p, ← q, ne_eqb b c n)
-
-  pub literal-more : b ≡ c → literal (drop (i + 1) w) (drop (at + 1) s) ≡ literal (drop i w) (drop at s)
-  unfolding literal
-  literal-more e = rw (drop-cons w i 0 h, ← p, ← q, eq-eqb b c e, add-one i, ← rest-drop)
 
 -- An i64 holds the value of a numeral of the form
 pub saturated-few : (w : Numeral) → w.magnitude < 10 ^ 10 → saturated w ≡ value_of w
@@ -155,3 +121,29 @@ between-inv low high w e = go w.negative refl e
     go false p h =
         let b = both_true (leb low w.magnitude) (leb w.magnitude high) h in
         (p, leb-true low w.magnitude b.0, leb-true w.magnitude high b.1)
+
+-- What stands at the front of a text where a digit was read, and where none was
+pub digit-read : (s : List ℕ) (d : ℕ) (t : List ℕ) → good d t ≡ next_digit s → (d < 10) × (digit (peek s) ≡ d) × (rest s ≡ t)
+unfolding digit peek rest
+digit-read [] d t e = absurd (let z : ◌≡◌ {A = Read ℕ} (good d t) bad = e in cc)
+digit-read (b ∷ s) d t e = grind (arith, nat_tests)
+
+pub digit-unread : (s : List ℕ) → bad ≡ next_digit s → digit (peek s) ≡ 10
+unfolding digit peek
+digit-unread [] e = refl
+digit-unread (b ∷ s) e = grind (arith, nat_tests)
+
+module _ (k m : ℕ) (negative : Bool) (s : List ℕ) where
+  pub digits-end : bad ≡ next_digit s → good (record { negative = negative; magnitude = m }) s ≡ digits k negative m s
+  unfolding digits
+  digits-end h = go k
+    where
+      go : (j : ℕ) → good (record { negative = negative; magnitude = m }) s ≡ digits j negative m s
+      go zero = refl
+      go (suc j) = rw (digit-unread s h) refl
+
+  pub digits-step : (j d : ℕ) (t : List ℕ) → j + 1 ≡ k → good d t ≡ next_digit s → digits j negative (m * 10 + d) t ≡ digits k negative m s
+  unfolding digits
+  digits-step j d t p h =
+      let r = digit-read s d t h in
+      rw (← p, add-one) (simp (r.1, r.2, lt-ltb d 10 r.0))

@@ -1,7 +1,6 @@
 pub mod Laws
 pub mod NumeralTexts
 pub mod LineTexts
-pub mod Places
 pub mod Checks
 pub mod Years
 pub mod Lengths

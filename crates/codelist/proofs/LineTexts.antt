@@ -1,13 +1,20 @@
 -- An operation line is read exactly where its text stands, and so is the first line.
-use Prim.Native.Nat.{ℕ, ◌≤◌, ◌<◌}
-use mathlib.Core.Bool.{Bool, true, cond, ◌&&◌}
+use Prim.Native.Nat.{ℕ, suc, ◌≤◌, ◌<◌}
+use mathlib.Core.Bool.{Bool, true, false, cond, ◌&&◌, false≢true}
 use mathlib.Core.List.{List, [], ◌∷◌, ◌++◌, append_assoc}
 use mathlib.Core.Logic.{◌⊎◌, inl, inr, ⊎_elim}
 use mathlib.Core.Path.{◌≡◌, refl, sym, ap, subst, ◌∙◌}
 use native.Mathlib.Decide.{ℕ_discrete}
 use native.Mathlib.Omega.{arith}
 use lib.Dec.{ltb, eqb, lit<}
-use borrow.Author.Tests.{eq-eqb, ne_eqb, ltb-true}
+use lib.ListN.{length, get_or, drop}
+use mir.Syntax.{w8}
+use mir.Val.{Fits}
+use Rattle.std.specs.Borrow.{Bor}
+use Rattle.std.specs.Option.{MatchOption}
+use Rattle.std.specs.declared.option.Option.{Option}
+use Rattle.std.specs.declared.option.Option.TheVariants.{Some, None}
+use borrow.Author.Tests.{eq-eqb, ne_eqb, ltb-true, lt-ltb}
 use Rattle.codelist.specs.Text.{TextLine, YearField, absent, written}
 use Rattle.codelist.specs.Text.{Add, Mul, AddC, MulC, Pow, Inv}
 use Rattle.codelist.specs.declared.Numeral.{Numeral}
@@ -15,9 +22,10 @@ use Rattle.codelist.specs.declared.lines.Word.{Word}
 use Rattle.codelist.specs.declared.lines.Word.TheVariants as word
 use Rattle.codelist.specs.Text.{IsNumeral, HasNumerals, HasYear, FirstAt, LineAt, numeral_text, two, first_text, line_text, factors→, add→}
 use Rattle.codelist.specs.Text.{mul→, addc→, mulc→, pow→, inv→}
-use Rattle.codelist.specs.Read.{Read, good, bad, next, ◌or◌, peek, rest, digit, numeral, field, literal, named, keyword, pair, both}
+use Rattle.codelist.specs.Read.{Read, good, bad, next, ◌or◌, peek, rest, digit, numeral, field, literal, is_good, begins_with, named, keyword, pair, both}
 use Rattle.codelist.specs.Read.{operands, operation_line, first_fields, first_line}
-use Rattle.codelist.proofs.Laws.{both_true}
+use Rattle.codelist.specs.Views.{of_literal}
+use Rattle.codelist.proofs.Laws.{both_true, both-made}
 use Rattle.codelist.proofs.NumeralTexts.{NumeralAt, numeral-sound, numeral-complete, peek-cons, never}
 
 -- What a reader after another one gave comes from what the first gave
@@ -70,6 +78,31 @@ literal-sound (b ∷ w) s x t h e = go (ℕ_discrete (peek s) b) (literal-sound 
     go (yes y) ih =
         let small = both_true (ltb b 256) (all_bytes w) h in
         peek-cons s b y (ltb-true b 256 small.0) ∙ ap (λ (l : List ℕ). b ∷ l) (ih small.1 (simp (eq-eqb (peek s) b y) at e))
+
+pub literal-begun : (w t : List ℕ) → literal w (w ++ t) ≡ good tt t
+unfolding literal peek rest
+literal-begun [] t = refl
+literal-begun (b ∷ w) t = rw (eq-eqb b b refl) (literal-begun w t)
+
+-- The bytes of a slice
+pub bytes : (w : List ℕ) → ((i : ℕ) → Fits w8 (get_or w i 0)) → all_bytes w ≡ true
+bytes [] h = refl
+bytes (b ∷ w) h = both-made (ltb b 256) (all_bytes w) (lt-ltb b 256 (omega (arith, h 0))) (bytes w (λ i. h (suc i)))
+
+-- What `strip_prefix` and `starts_with` say of the text s and the bytes w
+module _ (w s : List ℕ) (h : (i : ℕ) → Fits w8 (get_or w i 0)) where
+  unbegun : ((t : List ℕ) → s ≡ w ++ t → ⊥) → (r : Read Unit) → literal w s ≡ r → bad ≡ r
+  unbegun n (good x t) e = absurd (n t (literal-sound w s x t (bytes w h) e))
+  unbegun n bad e = refl
+
+  pub stripped : (r : Option (Bor (List ℕ))) → MatchOption r ((t : List ℕ) → s ≡ w ++ t → ⊥) (λ x. s ≡ w ++ x.now) → of_literal r ≡ literal w s
+  stripped (Some x) m = sym (rw m (literal-begun w x.now))
+  stripped None m = unbegun m (literal w s) refl
+
+  pub started : (r : Bool) → (r ≡ true → s ≡ w ++ drop (length w) s) × ((t : List ℕ) → s ≡ w ++ t → r ≡ true) → r ≡ begins_with w s
+  unfolding begins_with
+  started true m = sym (ap (λ (l : List ℕ). is_good (literal w l)) (m.0 refl) ∙ ap is_good (literal-begun w (drop (length w) s)))
+  started false m = ap is_good (unbegun (λ t e. false≢true (m.1 t e)) (literal w s) refl)
 
 -- The word of each kind of line, with its tab
 abbrev word_text : Word → List ℕ

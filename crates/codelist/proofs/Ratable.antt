@@ -48,31 +48,39 @@ pub by-operations : (c : Codelist) → in_bounds c ≡ true → length c.ops ≡
 unfolding ratable
 by-operations c e l = rw (e, eq-eqb (length c.ops) 64 l)
 
--- The operations from index k on, among the first `count` entries, as the loop tests them
+-- The operations from index k on, as a loop over them tests them
+module _ (n : ℕ) (xs : List Entry) (k : ℕ) where
+  module _ (d : Entry) (h : k < length xs) where
+    entries-step : well_formed_ops (n + k) (drop k xs) ≡ (well_formed_op (n + k) (get_or xs k d).op && well_formed_ops (n + (k + 1)) (drop (k + 1) xs))
+    unfolding well_formed_ops
+    entries-step = let a : n + (k + 1) ≡ n + k + 1 = omega arith in rw (drop-cons xs k d h, a, add-one k)
+
+    pub entries-fail : false ≡ well_formed_op (n + k) (get_or xs k d).op → well_formed_ops (n + k) (drop k xs) ≡ false
+    entries-fail e = entries-step ∙ rw (← e)
+
+    pub entries-pass : true ≡ well_formed_op (n + k) (get_or xs k d).op
+        → well_formed_ops (n + (k + 1)) (drop (k + 1) xs) ≡ well_formed_ops (n + k) (drop k xs)
+    entries-pass e = sym (entries-step ∙ rw (← e))
+
+  pub entries-end : length xs ≤ k → well_formed_ops (n + k) (drop k xs) ≡ true
+  unfolding well_formed_ops
+  entries-end h = rw (drop_of_length-le xs h)
+
+-- The same of the first `count` entries
 module _ (n count : ℕ) (xs : List Entry) (few : count ≤ length xs) (k : ℕ) where
   ops-long : length (take count xs) ≡ count
   ops-long = length-take-le count xs few
 
   module _ (d : Entry) (h : k < count) where
-    ops-step : well_formed_ops (n + k) (drop k (take count xs))
-        ≡ (well_formed_op (n + k) (get_or xs k d).op && well_formed_ops (n + (k + 1)) (drop (k + 1) (take count xs)))
-    unfolding well_formed_ops
-    ops-step =
-        let a : n + (k + 1) ≡ n + k + 1 = omega arith in
-        rw (drop-cons (take count xs) k d (omega (arith, ops-long)), get_or-take count xs k d h, a, add-one k)
-
     pub ops-fail : well_formed_op (n + k) (get_or xs k d).op ≡ false → well_formed_ops (n + k) (drop k (take count xs)) ≡ false
-    ops-fail e = ops-step ∙ rw e
+    ops-fail e = entries-fail n (take count xs) k d (omega (arith, ops-long)) (rw (get_or-take count xs k d h) (sym e))
 
     pub ops-pass : well_formed_op (n + k) (get_or xs k d).op ≡ true
         → well_formed_ops (n + (k + 1)) (drop (k + 1) (take count xs)) ≡ well_formed_ops (n + k) (drop k (take count xs))
-    ops-pass e = sym (ops-step ∙ rw e)
+    ops-pass e = entries-pass n (take count xs) k d (omega (arith, ops-long)) (rw (get_or-take count xs k d h) (sym e))
 
   pub ops-end : count ≤ k → well_formed_ops (n + k) (drop k (take count xs)) ≡ true
-  unfolding well_formed_ops
-  ops-end h =
-      let past : length (take count xs) ≤ k = omega (arith, ops-long) in
-      rw (drop_of_length-le (take count xs) past)
+  ops-end h = entries-end n (take count xs) k (omega (arith, ops-long))
 
 -- What a ratable codelist has besides: as many operations as it counts
 pub taken : (c : Codelist) → Ratable c → length (take c.count c.ops) ≡ c.count

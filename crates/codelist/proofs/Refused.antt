@@ -9,9 +9,9 @@ use borrow.Author.Tests.{lt-leb}
 use Rattle.codelist.specs.declared.Codelist.{Codelist}
 use Rattle.codelist.specs.declared.Entry.{Entry}
 use Rattle.codelist.specs.Text.{TextLine}
-use Rattle.codelist.specs.declared.Loaded.{Loaded}
+use Rattle.codelist.specs.InFull.{Loaded}
 use Rattle.codelist.specs.declared.Numeral.{Numeral}
-use Rattle.codelist.specs.declared.Outcome.TheVariants.{Refused}
+use Rattle.codelist.specs.InFull.{Refused}
 use Rattle.codelist.specs.declared.Refusal.{Refusal}
 use Rattle.codelist.specs.declared.Refusal.TheVariants.{Malformed}
 use Rattle.codelist.specs.Text.{YearField, LineAt}

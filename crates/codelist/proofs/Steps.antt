@@ -3,10 +3,10 @@ use Prim.Native.Nat.{ℕ, suc, zero, ◌+◌}
 use mathlib.Core.List.{List, [], ◌∷◌, ◌++◌}
 use mathlib.Core.Path.{◌≡◌, refl, ◌∙◌}
 use lib.ListN.{length}
-use Rattle.codelist.specs.declared.loading.Checked.TheVariants.{Fine, Fault}
+use Rattle.std.specs.declared.result.Result.TheVariants.{Ok, Err}
 use Rattle.codelist.specs.declared.Entry.{Entry}
 use Rattle.codelist.specs.Text.{TextLine}
-use Rattle.codelist.specs.declared.Loaded.{Loaded}
+use Rattle.codelist.specs.InFull.{Loaded}
 use Rattle.codelist.specs.declared.Op.{Op}
 use Rattle.codelist.specs.declared.Refusal.{Refusal}
 use Rattle.codelist.specs.declared.Refusal.TheVariants.{Malformed, TooManyLines}
@@ -42,12 +42,12 @@ module _ (y : Year) (n : ℕ) (ops : List Entry) where
       unfolding operation_lines
       step-full = a-line s l t _ _ e ∙ rw e
 
-      pub step-fault : (room : ℕ) (r : Refusal) → checked_of (length ops + 2) (n + length ops) l ≡ Fault r
+      pub step-fault : (room : ℕ) (r : Refusal) → checked_of (length ops + 2) (n + length ops) l ≡ Err r
           → operation_lines y n (suc room) ops s ≡ refused r
       unfolding operation_lines
       step-fault room r q = a-line s l t _ _ e ∙ rw (e, q)
 
-      pub step-fine : (room : ℕ) (o : Op) → checked_of (length ops + 2) (n + length ops) l ≡ Fine o
+      pub step-fine : (room : ℕ) (o : Op) → checked_of (length ops + 2) (n + length ops) l ≡ Ok o
           → operation_lines y n (suc room) ops s ≡ operation_lines y n room (ops ++ (record { op = o } ∷ [])) t
       unfolding operation_lines
       step-fine room o q = a-line s l t _ _ e ∙ rw (e, q)

@@ -4,11 +4,11 @@ use mathlib.Core.List.{List, [], ◌∷◌, ◌++◌, append_assoc, append-nil}
 use mathlib.Core.Path.{◌≡◌, refl, sym, ap, subst, ◌∙◌}
 use native.Mathlib.Omega.{arith}
 use lib.ListN.{length, length-append}
-use Rattle.codelist.specs.declared.loading.Checked.{Checked}
-use Rattle.codelist.specs.declared.loading.Checked.TheVariants.{Fine, Fault}
+use Rattle.std.specs.declared.result.Result.{Result}
+use Rattle.std.specs.declared.result.Result.TheVariants.{Ok, Err}
 use Rattle.codelist.specs.declared.Entry.{Entry}
 use Rattle.codelist.specs.Text.{TextLine}
-use Rattle.codelist.specs.declared.Loaded.{Loaded}
+use Rattle.codelist.specs.InFull.{Loaded}
 use Rattle.codelist.specs.declared.Op.{Op}
 use Rattle.codelist.specs.declared.Refusal.{Refusal}
 use Rattle.codelist.specs.declared.Refusal.TheVariants.{Malformed, TooManyLines}
@@ -49,7 +49,7 @@ pub data Stop (y : Year) (n left : ℕ) (ops : List Entry) (s : List ℕ) (resul
   at-full : left ≡ 0 → (l : TextLine) (t : List ℕ) → operation_line s ≡ good l t → result ≡ refused (TooManyLines (length ops + 2))
       → Stop y n left ops s result
   at-fault : 1 ≤ left → (l : TextLine) (t : List ℕ) (r : Refusal) → operation_line s ≡ good l t
-      → checked_of (length ops + 2) (n + length ops) l ≡ Fault r → result ≡ refused r → Stop y n left ops s result
+      → checked_of (length ops + 2) (n + length ops) l ≡ Err r → result ≡ refused r → Stop y n left ops s result
 
 -- The lines that are within the rules, from s on, and what stops the reading after them
 pub record Trace (y : Year) (n room : ℕ) (ops : List Entry) (s : List ℕ) (result : Loaded) : Type 0 where
@@ -74,7 +74,7 @@ here y n room ops s result p = record {
 
 -- One line, and then the others
 further : (y : Year) (n room : ℕ) (ops : List Entry) (s : List ℕ) (l : TextLine) (t : List ℕ) (o : Op) (result : Loaded) → LineAt s l t
-    → checked_of (length ops + 2) (n + length ops) l ≡ Fine o → Trace y n room (ops ++ (record { op = o } ∷ [])) t result
+    → checked_of (length ops + 2) (n + length ops) l ≡ Ok o → Trace y n room (ops ++ (record { op = o } ∷ [])) t result
     → Trace y n (suc room) ops s result
 further y n room ops s l t o result a f i =
     let x : Entry = record { op = o } in
@@ -116,10 +116,10 @@ trace y (suc room) n ops (b ∷ s) = go (operation_line (b ∷ s)) refl (λ o t.
     Later : Type 0
     Later = (o : Op) (t : List ℕ) → Trace y n room (ops ++ (record { op = o } ∷ [])) t (more o t)
 
-    checked : (l : TextLine) (t : List ℕ) → operation_line (b ∷ s) ≡ good l t → (x : Checked) → checked_of p (n + length ops) l ≡ x → Later
+    checked : (l : TextLine) (t : List ℕ) → operation_line (b ∷ s) ≡ good l t → (x : Result Op Refusal) → checked_of p (n + length ops) l ≡ x → Later
         → Trace y n (suc room) ops (b ∷ s) (on_checked x (λ o. more o t))
-    checked l t e (Fault r) q ih = here y n (suc room) ops (b ∷ s) _ (at-fault (omega arith) l t r e q refl)
-    checked l t e (Fine o) q ih = further y n room ops (b ∷ s) l t o _ (line-sound (b ∷ s) l t e) q (ih o t)
+    checked l t e (Err r) q ih = here y n (suc room) ops (b ∷ s) _ (at-fault (omega arith) l t r e q refl)
+    checked l t e (Ok o) q ih = further y n room ops (b ∷ s) l t o _ (line-sound (b ∷ s) l t e) q (ih o t)
 
     go : (x : Read TextLine) → operation_line (b ∷ s) ≡ x → Later
         → Trace y n (suc room) ops (b ∷ s) (on_line p x (λ l t. on_checked (checked_of p (n + length ops) l) (λ o. more o t)))

@@ -5,6 +5,7 @@ pub mod Codelist
 pub mod Write
 pub mod Conditions
 pub mod Read
+pub mod InFull
 pub mod Load
 pub mod Accepted
 pub mod Refused

@@ -3,17 +3,17 @@
 -- place, checked right after 7 in its line". Request 9: "Any other numeral there gets 17, text line 1, after 3".
 use Rattle.std.specs.Prelude.{ℕ, suc, zero, ◌+◌, ◌-◌, ◌^◌, min, Bool, cond, List, [], ◌∷◌, ◌++◌, leb, ℤ, pos, neg_ℤ, length, replicate}
 use Rattle.std.proofs.Math.Option.{Option, some, none}
-use Rattle.codelist.specs.declared.loading.Checked.{Checked}
-use Rattle.codelist.specs.declared.loading.Checked.TheVariants.{Fine, Fault}
+use Rattle.std.specs.declared.result.Result.{Result}
+use Rattle.std.specs.declared.result.Result.TheVariants.{Ok, Err}
 use Rattle.codelist.specs.declared.Codelist.{Codelist}
 use Rattle.codelist.specs.declared.Entry.{Entry}
 use Rattle.codelist.specs.Text.{TextLine, YearField, year_of}
 use Rattle.codelist.specs.Text.{Add, Mul, AddC, MulC, Pow, Inv}
-use Rattle.codelist.specs.declared.Loaded.{Loaded}
+use Rattle.codelist.specs.InFull.{Loaded}
 use Rattle.codelist.specs.declared.Numeral.{Numeral}
 use Rattle.codelist.specs.declared.Op.{Op}
 use Rattle.codelist.specs.declared.Op.TheVariants as op
-use Rattle.codelist.specs.declared.Outcome.TheVariants.{Accepted, Refused}
+use Rattle.codelist.specs.InFull.{Accepted, Refused}
 use Rattle.codelist.specs.declared.Refusal.{Refusal}
 use Rattle.codelist.specs.declared.Refusal.TheVariants.{TooLong, Malformed, FactorCount, UnknownYear, TooManyLines, NoOperation, Reference}
 use Rattle.codelist.specs.declared.Refusal.TheVariants.{Exponent, Constant, ZeroMultiplier}
@@ -62,6 +62,11 @@ refused r = record { outcome = Refused r; codelist = empty }
 abbrev pub accepted : Codelist → Loaded
 accepted c = record { outcome = Accepted; codelist = c }
 
+-- The code's answer in full
+abbrev pub in_full : Result Codelist Refusal → Loaded
+in_full (Ok c) = accepted c
+in_full (Err r) = refused r
+
 -- The codelist of the year y, n factors and the operations ops, which fill the array from the front
 unfoldable pub codelist_of : Year → ℕ → List Entry → Codelist
 codelist_of y n ops = record { factors = n; count = length ops; year = y; ops = ops ++ replicate (64 - length ops) blank }
@@ -89,12 +94,12 @@ abbrev pub unless : {A : Type 0} → Bool → A → A → A
 unless b x y = cond b y x
 
 -- The line at text line p, with e codelist lines before it: 5, then 6, then 7, then 15
-unfoldable pub checked_of : ℕ → ℕ → TextLine → Checked
+unfoldable pub checked_of : ℕ → ℕ → TextLine → Result Op Refusal
 checked_of p e l =
-    unless (refers_back e l) (Fault (Reference p))
-    (unless (exponent_fits l) (Fault (Exponent p))
-    (unless (constant_fits l) (Fault (Constant p))
-    (unless (multiplier_fits l) (Fault (ZeroMultiplier p)) (Fine (op_of l)))))
+    unless (refers_back e l) (Err (Reference p))
+    (unless (exponent_fits l) (Err (Exponent p))
+    (unless (constant_fits l) (Err (Constant p))
+    (unless (multiplier_fits l) (Err (ZeroMultiplier p)) (Ok (op_of l)))))
 
 -- The end of the text, after the operations ops: there must be one
 abbrev pub ended : Year → ℕ → List Entry → Loaded
@@ -102,9 +107,9 @@ ended y n [] = refused NoOperation
 ended y n (x ∷ xs) = accepted (codelist_of y n (x ∷ xs))
 
 -- What a checked line leads to
-abbrev pub on_checked : Checked → (Op → Loaded) → Loaded
-on_checked (Fine o) f = f o
-on_checked (Fault r) f = refused r
+abbrev pub on_checked : Result Op Refusal → (Op → Loaded) → Loaded
+on_checked (Ok o) f = f o
+on_checked (Err r) f = refused r
 
 -- What an operation line at text line p leads to: 2 where it is not of the form
 abbrev pub on_line : ℕ → Read TextLine → (TextLine → List ℕ → Loaded) → Loaded

@@ -1,12 +1,11 @@
 -- The readers: what each finds at the front of the bytes that are left. 01, "The sheet"; 02, request 9: the year.
-use Rattle.std.specs.Prelude.{ℕ, suc, zero, ◌+◌, ◌-◌, ◌*◌, Bool, true, false, cond, List, [], ◌∷◌, leb, ltb, eqb, length, drop}
+use Rattle.std.specs.Prelude.{ℕ, suc, zero, ◌+◌, ◌-◌, ◌*◌, Bool, true, false, cond, List, [], ◌∷◌, leb, ltb, eqb}
+use Rattle.std.specs.declared.option.Option.{Option}
+use Rattle.std.specs.declared.option.Option.TheVariants.{Some, None}
+use Rattle.std.specs.Borrow.{Bor}
 use Rattle.codelist.specs.Text.{TextLine, YearField, absent, written}
 use Rattle.codelist.specs.Text.{Add, Mul, AddC, MulC, Pow, Inv}
 use Rattle.codelist.specs.declared.Numeral.{Numeral}
-use Rattle.codelist.specs.declared.NumeralRead.{NumeralRead}
-use Rattle.codelist.specs.declared.NumeralRead.TheVariants as numeral_read
-use Rattle.codelist.specs.declared.PairRead.{PairRead}
-use Rattle.codelist.specs.declared.PairRead.TheVariants as pair_read
 use Rattle.codelist.specs.declared.lines.Word.{Word}
 use Rattle.codelist.specs.declared.lines.Word.TheVariants as word
 use Rattle.codelist.specs.Text.{factors→, add→, mul→, addc→, mulc→, pow→, inv→}
@@ -25,6 +24,11 @@ rest (b ∷ s) = s
 pub data Read (A : Type 0) : Type 0 where
   good : A → List ℕ → Read A
   bad : Read A
+
+-- What the code's readers say: what was read with the rest of the text, or none
+abbrev pub read_of : {A : Type 0} → Option (A × Bor (List ℕ)) → Read A
+read_of (Some p) = good p.0 p.1.now
+read_of None = bad
 
 -- One reader after another
 abbrev pub next : {A B : Type 0} → Read A → (A → List ℕ → Read B) → Read B
@@ -91,20 +95,6 @@ keyword s =
 -- Two numerals, parted by a tab, and the line's end
 unfoldable pub pair : List ℕ → Read (Numeral × Numeral)
 pair s = next (field 9 s) (λ i t. next (field 10 t) (λ x u. good (i, x) u))
-
--- What was read at a place of the text s, with the place after it: what is left of s there tells it by its length. Past the end of s
--- nothing is left, so that nothing of a form stands there.
-abbrev pub placed : {A B : Type 0} → (A → ℕ → B) → B → List ℕ → Read A → B
-placed found none s (good a t) = found a (length s - length t)
-placed found none s bad = none
-
--- A numeral and the byte e after it, at a place of s
-unfoldable pub field_from : ℕ → List ℕ → ℕ → NumeralRead
-field_from e s at = placed numeral_read.Good numeral_read.Bad s (field e (drop at s))
-
--- Two numerals, parted by a tab, and the line's end, at a place of s
-unfoldable pub pair_from : List ℕ → ℕ → PairRead
-pair_from s at = placed (λ p. pair_read.Good p.0 p.1) pair_read.Bad s (pair (drop at s))
 
 -- What follows the word of an operation line
 abbrev pub both : (Numeral → Numeral → TextLine) → List ℕ → Read TextLine

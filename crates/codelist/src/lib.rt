@@ -3,36 +3,33 @@
 
 ghost use Rattle.std.specs.Prelude.{◌≡◌};
 ghost use Rattle.codelist.specs.Codelist.{well_formed_op, ratable};
-ghost use Rattle.codelist.specs.Read.{begins_with, field_from, pair_from};
-ghost use Rattle.codelist.specs.Load.{number_of, place_of, empty, saturated, load_of};
+ghost use Rattle.codelist.specs.Conditions.{is_between};
+ghost use Rattle.codelist.specs.Read.{begins_with, read_of, field, pair};
+ghost use Rattle.codelist.specs.Load.{number_of, place_of, empty, saturated, load_of, in_full};
 
 mod lines; // lines.rt: the words, the operation lines and the first line of a text
 mod loading; // loading.rt: the year, the conditions on a line, its operation, and the operation lines one after another
 pub mod numerals; // numerals.rt: bytes, digits and numerals of a text
-mod well_formed; // well_formed.rt: the references, exponents and constants of an operation
+mod well_formed; // well_formed.rt: the references and constants of an operation
 
-use lines::{FirstRead, LiteralRead};
-use loading::YearNamed;
+use well_formed::{is_constant, is_earlier};
 
 // 01, "What the engine takes and gives": the bytes of a text, the lines of a codelist, the factors, and the limit on constants in units.
 const MOST_BYTES: usize = 4096;
 
-const MOST_LINES: usize = 64;
+const MOST_LINES: u8 = 64;
 
 const MOST_FACTORS: u64 = 8;
 
 const LIMIT: u64 = 2_000_000_000;
 
-// The greatest magnitude that an i64 has with either sign.
-const MOST_VALUE: u64 = 9_223_372_036_854_775_807;
-
 // The bytes that end a numeral's field.
-const TAB: u8 = 9;
+const TAB: u8 = b'\t';
 
-const LINE_END: u8 = 10;
+const LINE_END: u8 = b'\n';
 
 // An operation. A reference is the number of a codelist line, from 1; a constant is in units.
-#[derive(Clone, Copy)]
+#[derive(Clone, Copy, PartialEq, Eq)]
 pub enum Op {
     Add(u8, u8),
     Mul(u8, u8),
@@ -42,7 +39,7 @@ pub enum Op {
     Inv(u8),
 }
 
-// An element of the array of operations.
+// An element of the array of operations. A struct, since the definitions of specs/ read its `op`.
 #[derive(Clone, Copy)]
 pub struct Entry {
     pub op: Op,
@@ -50,14 +47,14 @@ pub struct Entry {
 
 // The year of the rules that a codelist is rated by (02, request 9): "2016, or absent, means the rules so far; 2014 means source document 001,
 // Table 2". An enum, so that no codelist has another one.
-#[derive(Clone, Copy)]
+#[derive(Clone, Copy, PartialEq, Eq)]
 pub enum Year {
     Y2016,
     Y2014,
 }
 
 // Codelist lines 1 to `factors` are the factors, and the next `count` ones are the operations, from the front of `ops`. Every
-// further entry is `Inv(0)`, which is no operation of a codelist.
+// further entry is `Inv(0)`, which is no operation of a codelist. An array with its count, since no library here allocates.
 #[derive(Clone, Copy)]
 pub struct Codelist {
     pub factors: u8,
@@ -81,7 +78,7 @@ impl Codelist {
 }
 
 // Why a text is refused: 01's refusals 1 to 7, and 15 and 17 of 02. The number held is that of the text line, from 1.
-#[derive(Clone, Copy)]
+#[derive(Clone, Copy, PartialEq, Eq)]
 pub enum Refusal {
     // 1: more than 4,096 bytes.
     TooLong,
@@ -115,8 +112,7 @@ impl Refusal {
             Refusal::Malformed(_) => 2,
             Refusal::FactorCount => 3,
             Refusal::UnknownYear => 17,
-            Refusal::TooManyLines(_) => 4,
-            Refusal::NoOperation => 4,
+            Refusal::TooManyLines(_) | Refusal::NoOperation => 4,
             Refusal::Reference(_) => 5,
             Refusal::Exponent(_) => 6,
             Refusal::Constant(_) => 7,
@@ -130,35 +126,20 @@ impl Refusal {
     {
         match self {
             Refusal::TooLong => 0,
-            Refusal::Malformed(line) => line,
-            Refusal::FactorCount => 1,
-            Refusal::UnknownYear => 1,
-            Refusal::TooManyLines(line) => line,
-            Refusal::NoOperation => 1,
-            Refusal::Reference(line) => line,
-            Refusal::Exponent(line) => line,
-            Refusal::Constant(line) => line,
-            Refusal::ZeroMultiplier(line) => line,
+            Refusal::FactorCount | Refusal::UnknownYear | Refusal::NoOperation => 1,
+            Refusal::Malformed(line)
+            | Refusal::TooManyLines(line)
+            | Refusal::Reference(line)
+            | Refusal::Exponent(line)
+            | Refusal::Constant(line)
+            | Refusal::ZeroMultiplier(line) => line,
         }
     }
 }
 
-// Whether a text was accepted, or why not.
-#[derive(Clone, Copy)]
-pub enum Outcome {
-    Accepted,
-    Refused(Refusal),
-}
-
-// What loading gives. Where it refuses, the codelist is the empty one: no factors, no operations.
-#[derive(Clone, Copy)]
-pub struct Loaded {
-    pub outcome: Outcome,
-    pub codelist: Codelist,
-}
-
 // A numeral as it is written: whether it has a minus sign, and the number that its digits write.
-#[derive(Clone, Copy)]
+// The sign is part of the number, and no flag beside it.
+#[derive(Clone, Copy, PartialEq, Eq)]
 pub struct Numeral {
     pub negative: bool,
     pub magnitude: u64,
@@ -169,107 +150,70 @@ impl Numeral {
     pub fn value(self) -> i64
         ensures { result ≡ saturated self }
     {
-        let mut m = self.magnitude;
-        if MOST_VALUE < m {
-            m = MOST_VALUE;
-        }
-        let x = m as i64;
+        let x = i64::try_from(self.magnitude).unwrap_or(i64::MAX);
         if self.negative { -x } else { x }
     }
-}
 
-// What stands at a place of the text: a numeral with the place after it, or none.
-#[derive(Clone, Copy)]
-pub enum NumeralRead {
-    Good(Numeral, usize),
-    Bad,
-}
-
-// What stands at a place of the text: two numerals with the place after their line, or none.
-#[derive(Clone, Copy)]
-pub enum PairRead {
-    Good(Numeral, Numeral, usize),
-    Bad,
-}
-
-// A numeral and the byte `end` after it, at a place of the text.
-pub fn field_at(s: &[u8], at: usize, end: u8) -> NumeralRead
-    ensures { result ≡ field_from end s.now at }
-{
-    match numerals::numeral_at(s, at) {
-        NumeralRead::Good(w, t) => {
-            if numerals::byte_at(s, t) == numerals::wide(end) {
-                NumeralRead::Good(w, t + 1)
-            } else {
-                NumeralRead::Bad
-            }
-        }
-        NumeralRead::Bad => NumeralRead::Bad,
+    // low ≤ the value ≤ high, for bounds that are not negative.
+    pub(crate) fn is_between(self, low: u64, high: u64) -> bool
+        ensures { result ≡ is_between low high self }
+    {
+        !self.negative && (low..=high).contains(&self.magnitude)
     }
 }
 
-// Two numerals, parted by a tab, and the line's end, at a place of the text.
-pub fn pair_at(s: &[u8], at: usize) -> PairRead
-    ensures { result ≡ pair_from s.now at }
+// A numeral and the byte `end` after it, at the front of the text.
+pub fn field(s: &[u8], end: u8) -> Option<(Numeral, &[u8])>
+    ensures { read_of result ≡ field end s.now }
 {
-    match field_at(s, at, TAB) {
-        NumeralRead::Good(i, t) => match field_at(s, t, LINE_END) {
-            NumeralRead::Good(x, u) => PairRead::Good(i, x, u),
-            NumeralRead::Bad => PairRead::Bad,
-        },
-        NumeralRead::Bad => PairRead::Bad,
-    }
+    let (w, t) = numerals::numeral(s)?;
+    let (b, rest) = t.split_first()?;
+    if *b == end { Some((w, rest)) } else { None }
+}
+
+// Two numerals, parted by a tab, and the line's end, at the front of the text.
+pub fn pair(s: &[u8]) -> Option<((Numeral, Numeral), &[u8])>
+    ensures { read_of result ≡ pair s.now }
+{
+    let (i, t) = field(s, TAB)?;
+    let (x, rest) = field(t, LINE_END)?;
+    Some(((i, x), rest))
 }
 
 // Whether a text begins with the bytes w.
+// Public: it is the library's `starts_with` in the words of the specs.
 pub fn begins_with(s: &[u8], w: &[u8]) -> bool
     ensures { result ≡ begins_with w.now s.now }
 {
-    match lines::literal_at(s, 0, w) {
-        LiteralRead::Good(_) => true,
-        LiteralRead::Bad => false,
-    }
+    s.starts_with(w)
 }
 
 // Loading (01, "The sheet" and refusals 1 to 7; 02's refusals 15 and 17): the whole codelist, or one refusal.
-pub fn load(bytes: &[u8]) -> Loaded
-    ensures { result ≡ load_of bytes.now }
+pub fn load(bytes: &[u8]) -> Result<Codelist, Refusal>
+    ensures { in_full result ≡ load_of bytes.now }
 {
-    if bytes.len() <= MOST_BYTES {
-        match lines::first_line(bytes) {
-            FirstRead::Good(n, field, t) => {
-                if loading::is_between(1, MOST_FACTORS, n) {
-                    match loading::year_of(field) {
-                        YearNamed::Known(year) => {
-                            loading::operation_lines(bytes, t, year, n.magnitude as usize)
-                        }
-                        YearNamed::Unknown => loading::refuse(Refusal::UnknownYear),
-                    }
-                } else {
-                    loading::refuse(Refusal::FactorCount)
-                }
-            }
-            FirstRead::Bad => loading::refuse(Refusal::Malformed(1)),
-        }
-    } else {
-        loading::refuse(Refusal::TooLong)
+    if MOST_BYTES < bytes.len() {
+        return Err(Refusal::TooLong);
     }
+    let (first, rest) = lines::first_line(bytes).ok_or(Refusal::Malformed(1))?;
+    if !first.factors.is_between(1, MOST_FACTORS) {
+        return Err(Refusal::FactorCount);
+    }
+    let year = loading::year_of(first.year).ok_or(Refusal::UnknownYear)?;
+    loading::operation_lines(rest, year, first.factors.magnitude as u8)
 }
 
 // Whether an operation with `earlier` codelist lines before it is well formed.
 pub fn is_op_well_formed(earlier: u64, op: Op) -> bool
     ensures { result ≡ well_formed_op earlier op }
 {
+    // `&` and not `&&`: each rating tests every operation, and with branches the test of a long codelist took a quarter longer
     match op {
-        Op::Add(i, j) => well_formed::is_earlier(earlier, i) & well_formed::is_earlier(earlier, j),
-        Op::Mul(i, j) => well_formed::is_earlier(earlier, i) & well_formed::is_earlier(earlier, j),
-        Op::AddC(i, c) => well_formed::is_earlier(earlier, i) & well_formed::is_constant(c),
-        Op::MulC(i, c) => {
-            well_formed::is_earlier(earlier, i)
-                & (well_formed::is_constant(c) & well_formed::is_multiplier(c))
-        }
-        Op::Pow(i, m) => well_formed::is_earlier(earlier, i) & well_formed::is_exponent(m),
-        Op::Inv(i) => well_formed::is_earlier(earlier, i),
+        Op::Add(i, j) | Op::Mul(i, j) => is_earlier(earlier, i) & is_earlier(earlier, j),
+        Op::AddC(i, c) => is_earlier(earlier, i) & is_constant(c),
+        Op::MulC(i, c) => is_earlier(earlier, i) & is_constant(c) & (c != 0),
+        Op::Pow(i, m) => is_earlier(earlier, i) & (2..=8).contains(&m),
+        Op::Inv(i) => is_earlier(earlier, i),
     }
 }
 
@@ -278,19 +222,15 @@ pub fn is_op_well_formed(earlier: u64, op: Op) -> bool
 pub fn is_ratable(c: Codelist) -> bool
     ensures { result ≡ ratable c }
 {
-    let n = c.factors as u64;
-    let count = c.count as usize;
-    if !((1 <= n) & (n <= MOST_FACTORS) & (1 <= count) & (n + count as u64 <= 64)) {
+    let n = u64::from(c.factors);
+    let count = u64::from(c.count);
+    if !((1..=MOST_FACTORS).contains(&n) && 1 <= count && n + count <= u64::from(MOST_LINES)) {
         return false;
     }
-    let mut k: usize = 0;
-    while k < count {
-        let x = c.ops[k];
-        let op = x.op;
-        if !is_op_well_formed(n + k as u64, op) {
+    for (k, entry) in c.ops[..usize::from(c.count)].iter().enumerate() {
+        if !is_op_well_formed(n + k as u64, entry.op) {
             return false;
         }
-        k += 1;
     }
     true
 }

@@ -1,12 +1,14 @@
-// The lines of the text (01, "The sheet"): the words that they begin with, the operation lines, and the first line.
-ghost use Rattle.std.specs.Prelude.{◌≡◌, drop};
-ghost use Rattle.codelist.specs.Read.{◌or◌, literal, named, keyword, operands, operation_line, first_fields, first_line};
-ghost use Rattle.codelist.specs.Views.{of_literal, of_word, of_line, of_first};
+// The lines of the text (01, "The sheet"): the words that they begin with, the operation lines, and the first line. Each reader gives what
+// stands at the front of the text, with the rest of it.
+ghost use Rattle.std.specs.Prelude.{◌≡◌};
+ghost use Rattle.codelist.specs.Read.{literal, named, keyword, operands, operation_line, first_fields, first_line, read_of};
+ghost use Rattle.codelist.specs.Views.{of_literal, of_line, of_first};
 
-use super::{LINE_END, Numeral, NumeralRead, PairRead, numerals};
+use super::{LINE_END, Numeral, field, pair};
 
 // The word that an operation line begins with.
-#[derive(Clone, Copy)]
+// The word alone, before its numerals; `Line` has these as written, and `Op` the numbers of a line that keeps the rules.
+#[derive(Clone, Copy, PartialEq, Eq)]
 pub(crate) enum Word {
     Add,
     Mul,
@@ -16,148 +18,101 @@ pub(crate) enum Word {
     Inv,
 }
 
-// An operation line as it is written: its word and its numerals. The one numeral of a line `inv` stands here twice.
+// An operation line as it is written.
 #[derive(Clone, Copy)]
-pub(crate) struct LineParts {
-    pub word: Word,
-    pub left: Numeral,
-    pub right: Numeral,
+pub(crate) enum Line {
+    Add(Numeral, Numeral),
+    Mul(Numeral, Numeral),
+    AddC(Numeral, Numeral),
+    MulC(Numeral, Numeral),
+    Pow(Numeral, Numeral),
+    Inv(Numeral),
 }
 
-// What the readers find at a place of the text, each with the place after it.
+// The first line as it is written: its n, and the numeral of a year where it has a third field (02, request 9).
 #[derive(Clone, Copy)]
-pub(crate) enum LiteralRead {
-    Good(usize),
-    Bad,
+pub(crate) struct FirstLine {
+    pub factors: Numeral,
+    pub year: Option<Numeral>,
 }
 
-#[derive(Clone, Copy)]
-enum WordRead {
-    Good(Word, usize),
-    Bad,
-}
-
-#[derive(Clone, Copy)]
-pub(crate) enum LineRead {
-    Good(LineParts, usize),
-    Bad,
-}
-
-// The third field of the first line as it is written (02, request 9): none, or the numeral of a year.
-#[derive(Clone, Copy)]
-pub(crate) enum ThirdField {
-    Absent,
-    Written(Numeral),
-}
-
-// The first line: its n, its third field, and the place after it.
-#[derive(Clone, Copy)]
-pub(crate) enum FirstRead {
-    Good(Numeral, ThirdField, usize),
-    Bad,
-}
-
-// The bytes of w.
-pub(crate) fn literal_at(s: &[u8], from: usize, w: &[u8]) -> LiteralRead
-    ensures { of_literal s.now result ≡ literal w.now (drop from s.now) }
+// The bytes of w: `strip_prefix`, said in the words of specs/.
+fn literal<'a>(s: &'a [u8], w: &[u8]) -> Option<&'a [u8]>
+    ensures { of_literal result ≡ literal w.now s.now }
 {
-    let mut at = from;
-    let mut i = 0;
-    while i < w.len() {
-        if numerals::byte_at(s, at) != numerals::wide(w[i]) {
-            return LiteralRead::Bad;
-        }
-        at += 1;
-        i += 1;
-    }
-    LiteralRead::Good(at)
+    s.strip_prefix(w)
 }
 
-// The word that was found before, or else the word `name`, written w.
-fn word_or(found: WordRead, s: &[u8], at: usize, w: &[u8], name: Word) -> WordRead
-    ensures { of_word s.now result ≡ of_word s.now found or named name w.now (drop at s.now) }
+// The word `name`, written w.
+fn named<'a>(s: &'a [u8], w: &[u8], name: Word) -> Option<(Word, &'a [u8])>
+    ensures { read_of result ≡ named name w.now s.now }
 {
-    match found {
-        WordRead::Good(_, _) => found,
-        WordRead::Bad => match literal_at(s, at, w) {
-            LiteralRead::Good(t) => WordRead::Good(name, t),
-            LiteralRead::Bad => WordRead::Bad,
-        },
-    }
+    Some((name, literal(s, w)?))
 }
 
 // The word of an operation line, with the tab after it: no two of them begin the same text.
-fn keyword_at(s: &[u8], at: usize) -> WordRead
-    ensures { of_word s.now result ≡ keyword (drop at s.now) }
+fn keyword(s: &[u8]) -> Option<(Word, &[u8])>
+    ensures { read_of result ≡ keyword s.now }
 {
-    let add = word_or(WordRead::Bad, s, at, b"add\t", Word::Add);
-    let mul = word_or(add, s, at, b"mul\t", Word::Mul);
-    let addc = word_or(mul, s, at, b"addc\t", Word::AddC);
-    let mulc = word_or(addc, s, at, b"mulc\t", Word::MulC);
-    let pow = word_or(mulc, s, at, b"pow\t", Word::Pow);
-    word_or(pow, s, at, b"inv\t", Word::Inv)
+    named(s, b"add\t", Word::Add)
+        .or_else(|| named(s, b"mul\t", Word::Mul))
+        .or_else(|| named(s, b"addc\t", Word::AddC))
+        .or_else(|| named(s, b"mulc\t", Word::MulC))
+        .or_else(|| named(s, b"pow\t", Word::Pow))
+        .or_else(|| named(s, b"inv\t", Word::Inv))
 }
 
-// What follows the word of an operation line.
-fn operands_at(s: &[u8], at: usize, name: Word) -> LineRead
-    ensures { of_line s.now result ≡ operands name (drop at s.now) }
+// What follows the word of an operation line: two numerals, or one after inv.
+fn operands(s: &[u8], word: Word) -> Option<(Line, &[u8])>
+    ensures { of_line result ≡ operands word s.now }
 {
-    if let Word::Inv = name {
-        match super::field_at(s, at, LINE_END) {
-            NumeralRead::Good(i, t) => LineRead::Good(
-                LineParts {
-                    word: name,
-                    left: i,
-                    right: i,
-                },
-                t,
-            ),
-            NumeralRead::Bad => LineRead::Bad,
-        }
-    } else {
-        match super::pair_at(s, at) {
-            PairRead::Good(i, x, t) => LineRead::Good(
-                LineParts {
-                    word: name,
-                    left: i,
-                    right: x,
-                },
-                t,
-            ),
-            PairRead::Bad => LineRead::Bad,
-        }
+    if word == Word::Inv {
+        let (i, rest) = field(s, LINE_END)?;
+        return Some((Line::Inv(i), rest));
     }
+    let ((i, x), rest) = pair(s)?;
+    let line = match word {
+        Word::Add => Line::Add(i, x),
+        Word::Mul => Line::Mul(i, x),
+        Word::AddC => Line::AddC(i, x),
+        Word::MulC => Line::MulC(i, x),
+        Word::Pow => Line::Pow(i, x),
+        // read above: no line `inv` comes here
+        Word::Inv => Line::Inv(i),
+    };
+    Some((line, rest))
 }
 
 // An operation line of the form.
-pub(crate) fn line_at(s: &[u8], at: usize) -> LineRead
-    ensures { of_line s.now result ≡ operation_line (drop at s.now) }
+pub(crate) fn operation_line(s: &[u8]) -> Option<(Line, &[u8])>
+    ensures { of_line result ≡ operation_line s.now }
 {
-    match keyword_at(s, at) {
-        WordRead::Good(name, t) => operands_at(s, t, name),
-        WordRead::Bad => LineRead::Bad,
-    }
+    let (word, rest) = keyword(s)?;
+    operands(rest, word)
 }
 
 // What follows the word of the first line: n alone, or n and the year.
-fn first_fields_at(s: &[u8], at: usize) -> FirstRead
-    ensures { of_first s.now result ≡ first_fields (drop at s.now) }
+fn first_fields(s: &[u8]) -> Option<(FirstLine, &[u8])>
+    ensures { of_first result ≡ first_fields s.now }
 {
-    match super::field_at(s, at, LINE_END) {
-        NumeralRead::Good(n, t) => FirstRead::Good(n, ThirdField::Absent, t),
-        NumeralRead::Bad => match super::pair_at(s, at) {
-            PairRead::Good(n, y, t) => FirstRead::Good(n, ThirdField::Written(y), t),
-            PairRead::Bad => FirstRead::Bad,
-        },
+    if let Some((factors, rest)) = field(s, LINE_END) {
+        let line = FirstLine {
+            factors,
+            year: None,
+        };
+        return Some((line, rest));
     }
+    let ((factors, year), rest) = pair(s)?;
+    let line = FirstLine {
+        factors,
+        year: Some(year),
+    };
+    Some((line, rest))
 }
 
 // The first line of the form.
-pub(crate) fn first_line(s: &[u8]) -> FirstRead
-    ensures { of_first s.now result ≡ first_line s.now }
+pub(crate) fn first_line(s: &[u8]) -> Option<(FirstLine, &[u8])>
+    ensures { of_first result ≡ first_line s.now }
 {
-    match literal_at(s, 0, b"factors\t") {
-        LiteralRead::Good(t) => first_fields_at(s, t),
-        LiteralRead::Bad => FirstRead::Bad,
-    }
+    first_fields(literal(s, b"factors\t")?)
 }

@@ -3,7 +3,7 @@ use Prim.Native.Nat.{ℕ, ◌≤◌}
 use mathlib.Core.Bool.{Bool, true, false, cond}
 use mathlib.Core.List.{List, []}
 use mathlib.Core.Option.{Option, none, some}
-use mathlib.Core.Path.{◌≡◌, refl}
+use mathlib.Core.Path.{◌≡◌}
 use native.Mathlib.Omega.{arith}
 use lib.Dec.{leb}
 use lib.IntN.{ℤ}
@@ -12,14 +12,14 @@ use Rattle.codelist.specs.declared.Refusal.TheVariants.{TooLong}
 use Rattle.engine.specs.declared.Engine.{Engine}
 use Rattle.engine.specs.declared.Refusal.TheVariants.{Load}
 use Rattle.engine.specs.Engine.{empty_engine, loaded_of}
+use Rattle.engine.proofs.Demands.{demands}
 use Rattle.writer.proofs.Lengths.{refused-length}
-use Rattle.text.specs.Input.{box, sheet_length, sheet_of, after_line, box_lines}
+use Rattle.text.specs.Input.{box, sheet_of, after_line, box_lines}
 use Rattle.text.specs.Output as text
 use Rattle.text.specs.Answer.{written}
-use Rattle.text.proofs.Answering.{few-factors}
 use Rattle.text.proofs.Lengths as Text
-use Rattle.bisection.specs.declared.Outcome.{Outcome}
-use Rattle.bisection.specs.declared.Outcome.TheVariants.{Accepted, Refused}
+use Rattle.bisection.specs.InFull.{Outcome}
+use Rattle.bisection.specs.InFull.{Accepted, Refused}
 use Rattle.bisection.specs.declared.Refusal.{Refusal}
 use Rattle.bisection.specs.Cut.{number_of, place_of, cut_of}
 use Rattle.cut_text.specs.Input.{depth_in, after_first}
@@ -39,12 +39,10 @@ cut-length e d (some xs) h = let b = cut_of e xs d in unless-length b.outcome _ 
 cut-length e d none h = refusal-length (unreadable d)
 
 rest-length : (d : ℤ) (s : List ℕ) → length (rest_text d s) ≤ 1024
-unfolding sheet_of
 rest-length d s =
-    let end = sheet_length box true s in
-    let l = loaded_of empty_engine (take end s) in
+    let l = loaded_of empty_engine (sheet_of box s) in
     Text.unless-length l.outcome _
-    (λ a. cut-length l.engine d (box_lines 8 [] (after_line box s)) (few-factors s end refl empty_engine refl l refl a))
+    (λ a. cut-length l.engine d (box_lines 8 [] (after_line box s)) (demands.loaded-written empty_engine (sheet_of box s) a).0.factors.1)
 
 answer-length : (s : List ℕ) → length (answer_of s) ≤ 1024
 unfolding answer_of

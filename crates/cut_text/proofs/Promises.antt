@@ -1,6 +1,5 @@
 -- What is promised of the program `cut`: `cut-prints`. Assumes nothing.
 use Prim.Native.Nat.{ℕ, ◌≤◌}
-use mathlib.Core.Bool.{true, false}
 use mathlib.Core.List.{List, [], ◌++◌}
 use mathlib.Core.Option.{Option, none, some}
 use mathlib.Core.Path.{◌≡◌, refl, sym, ap, ◌∙◌}
@@ -10,17 +9,15 @@ use lib.IntN.{ℤ, pos}
 use lib.ListN.{length, take}
 use lib.Seq.{take_all, length-take-le}
 use borrow.Author.Tests.{le-leb}
-use Rattle.codelist.specs.Codelist.{Ratable}
 use Rattle.codelist.specs.Load.{value_of}
 use Rattle.codelist.specs.Read.{peek, rest, digit, positive, numeral, field, literal}
 use Rattle.codelist.proofs.Ratable.{well-formed-ratable}
 use Rattle.rules.specs.declared.Limits.{Limits}
-use Rattle.rules.specs.declared.Outcome as rating
-use Rattle.rules.specs.declared.Rating.{Rating}
+use Rattle.rules.specs.InFull as rating
+use Rattle.rules.specs.InFull.{Rating}
 use Rattle.rules.specs.Rate.{rate_of}
-use Rattle.rules.proofs.Passing.{refuted-iff}
 use Rattle.engine.specs.declared.Engine.{Engine}
-use Rattle.engine.specs.declared.Outcome as engine
+use Rattle.engine.specs.InFull as engine
 use Rattle.engine.specs.declared.Refusal as engine-refusal
 use Rattle.engine.specs.Engine.{empty_engine, loaded_of, as_rating, rated_of}
 use Rattle.engine.proofs.Demands.{demands}
@@ -30,21 +27,18 @@ use Rattle.text.specs.Output as text
 use Rattle.text.specs.Answer as rate
 use Rattle.text.specs.Faithful.{Same}
 use Rattle.text.proofs.Faithful.{limits-inv}
-use Rattle.bisection.specs.declared.Bisected.{Bisected}
-use Rattle.bisection.specs.declared.Outcome.{Outcome}
-use Rattle.bisection.specs.declared.Outcome.TheVariants.{Accepted}
+use Rattle.bisection.specs.InFull.{Bisected}
+use Rattle.bisection.specs.InFull.{Outcome}
+use Rattle.bisection.specs.InFull.{Accepted}
 use Rattle.bisection.specs.declared.Refusal as bisection
-use Rattle.bisection.specs.declared.Refusal.TheVariants.{Depth}
-use Rattle.bisection.specs.Cut.{is_depth, answer_of, cut_of}
-use Rattle.bisection.specs.Promises.{IsDepth}
-use Rattle.bisection.proofs.Tested.{depth-iff}
-use Rattle.bisection.proofs.CutSound.{cut-sound, cut-valid, uncut}
+use Rattle.bisection.specs.Cut.{answer_of, cut_of}
+use Rattle.bisection.proofs.CutSound.{cut-valid, uncut}
 use Rattle.cut_text.specs.Input.{depth_line, depth_in, first_length, after_first}
 use Rattle.cut_text.specs.Output.{refusal_text, unless_refused, bisected_text}
 use Rattle.cut_text.specs.Answer as cut
 use Rattle.cut_text.specs.Answer.{unreadable, cut_text, rest_text}
 use Rattle.cut_text.specs.Promises.{loads, engine_of, depth→0, CutPrints}
-use Rattle.cut_text.proofs.Answering.{too_long}
+use Rattle.cut_text.proofs.Answering.{too_long, no-depth}
 use Rattle.cut_text.proofs.Lengths.{answer-whole}
 
 -- an input that is not too long
@@ -53,17 +47,9 @@ unfolding cut.answer_of
 in-length s h = rw (le-leb (length s) 8192 h)
 
 -- ---- loading's refusals, and 16
-refused-first : (s : List ℕ) (r : engine-refusal.Refusal) → length s ≤ 8192 → loads s ≡ engine.TheVariants.Refused r
+refused-first : (s : List ℕ) (r : engine-refusal.Refusal) → length s ≤ 8192 → loads s ≡ engine.Refused r
     → cut.answer_of s ≡ text.refusal_text r
 refused-first s r h e = in-length s h ∙ rw e
-
--- of every codelist that can be rated
-no-depth : (e : Engine) (d : ℤ) (xs : Option (List ℤ)) → Ratable e.codelist → ¬ (IsDepth d) → cut_text e d xs ≡ refused_text 16 0
-unfolding refusal_text
-no-depth e d (some xs) w n =
-    ap (λ (o : Outcome). unless_refused o (text.limits_text e.codelist.factors (cut_of e xs d).limits))
-    ((cut-sound.refused-listed e xs d Depth).1 (w, n))
-no-depth e d none w n = let f : is_depth d ≡ false = (refuted-iff true (depth-iff d)).1 n in rw f
 
 -- ---- depth 0
 answer-text : (n : ℕ) (x : Rating) → bisected_text n (answer_of x) ≡ rate.rating_text n (as_rating x)
@@ -72,8 +58,8 @@ answer-text n x = go x.outcome
   where
     go : (o : rating.Outcome) → bisected_text n (answer_of (record { outcome = o; limits = x.limits }))
         ≡ rate.rating_text n (as_rating (record { outcome = o; limits = x.limits }))
-    go rating.TheVariants.Rated = refl
-    go (rating.TheVariants.Refused r) = refl
+    go rating.Rated = refl
+    go (rating.Refused r) = refl
 
 same_text : (e : Engine) (xs : Option (List ℤ)) → cut_text e (pos 0) xs ≡ rate.rated_text e xs
 unfolding rated_of refusal_text text.refusal_text
@@ -116,6 +102,7 @@ reads-enough s = go (dec_le (length s) 8193)
         sym (too_long (take 8193 s) (omega (arith, n))) ∙ too_long s (omega (arith, h))
 
 pub cut-prints : CutPrints
+unfolding refused_text refusal_text
 cut-prints = record {
   refused = refused-first;
   no-depth = λ s h a n.

@@ -3,9 +3,9 @@ use Rattle.std.specs.Prelude.{List, ℕ}
 use Rattle.writer.specs.Texts.{refused_text}
 use Rattle.text.specs.Output.{limits_text}
 use Rattle.bisection.specs.declared.Refusal.{Refusal}
-use Rattle.bisection.specs.declared.Outcome.{Outcome}
-use Rattle.bisection.specs.declared.Outcome.TheVariants.{Accepted, Refused}
-use Rattle.bisection.specs.declared.Bisected.{Bisected}
+use Rattle.bisection.specs.InFull.{Outcome}
+use Rattle.bisection.specs.InFull.{Accepted, Refused}
+use Rattle.bisection.specs.InFull.{Bisected}
 use Rattle.bisection.specs.Cut.{number_of, place_of}
 
 -- THE TEXT OF A REFUSAL: the writer's, of the refusal's number and place

@@ -3,8 +3,8 @@
 use Rattle.std.specs.Prelude.{◌≡◌, List, ◌∷◌, [], ◌++◌, ℕ, ◌≤◌, ℤ, length, take}
 use Rattle.rules.specs.declared.Limits.{Limits}
 use Rattle.engine.specs.declared.Engine.{Engine}
-use Rattle.engine.specs.declared.Outcome.{Outcome}
-use Rattle.engine.specs.declared.Outcome.TheVariants.{Accepted, Refused}
+use Rattle.engine.specs.InFull.{Outcome}
+use Rattle.engine.specs.InFull.{Accepted, Refused}
 use Rattle.engine.specs.declared.Refusal.{Refusal}
 use Rattle.engine.specs.Engine.{empty_engine, loaded_of}
 use Rattle.writer.specs.Texts.{refused_text}
@@ -13,7 +13,7 @@ use Rattle.text.specs.Output as text
 use Rattle.text.specs.Answer as rate
 use Rattle.text.specs.Answer.{written}
 use Rattle.text.specs.Faithful.{Same}
-use Rattle.bisection.specs.declared.Outcome as bisected
+use Rattle.bisection.specs.InFull as bisected
 use Rattle.bisection.specs.declared.Refusal as bisection
 use Rattle.bisection.specs.Cut.{cut_of}
 use Rattle.bisection.specs.Promises.{IsDepth}
@@ -42,8 +42,8 @@ pub record CutPrints : Type 0 where
   -- the first `len` bytes of what `answer` gives, which the program writes, are the whole output
   pub whole : (s : List ℕ) → take (written (answer_of s)).len (written (answer_of s)).bytes ≡ answer_of s
   -- accepted answers for the same number of factors that print alike are the same
-  pub determined : (e f : Engine) (xs ys : List ℤ) (d g : ℤ) → (cut_of e xs d).outcome ≡ bisected.TheVariants.Accepted
-      → (cut_of f ys g).outcome ≡ bisected.TheVariants.Accepted → e.codelist.factors ≡ f.codelist.factors
+  pub determined : (e f : Engine) (xs ys : List ℤ) (d g : ℤ) → (cut_of e xs d).outcome ≡ bisected.Accepted
+      → (cut_of f ys g).outcome ≡ bisected.Accepted → e.codelist.factors ≡ f.codelist.factors
       → bisected_text e.codelist.factors (cut_of e xs d) ≡ bisected_text f.codelist.factors (cut_of f ys g)
       → Same e.codelist.factors (cut_of e xs d).limits (cut_of f ys g).limits
   -- a refusal never prints as a result

@@ -7,20 +7,21 @@ use mathlib.Core.Path.{◌≡◌, refl, sym, ap, subst, ◌∙◌}
 use native.Mathlib.Omega.{arith}
 use lib.ListN.{length, take, drop, replicate, take-append-drop}
 use lib.Seq.{take-append_seam, drop-append_seam, drop-drop}
+use Rattle.std.specs.declared.option.Option as read
+use Rattle.std.specs.declared.option.Option.TheVariants.{Some, None}
 use Rattle.codelist.specs.declared.Codelist.{Codelist}
 use Rattle.codelist.specs.declared.Entry.{Entry}
 use Rattle.codelist.specs.declared.Year.{Year}
 use Rattle.codelist.specs.Codelist.{WellFormed, WellFormedOps, blank}
 use Rattle.codelist.specs.Load.{codelist_of}
 use Rattle.codelist.proofs.Ratable.{Counts, taken, well-formed-ratable}
-use Rattle.encoding.specs.declared.HeadRead.{HeadRead}
-use Rattle.encoding.specs.declared.HeadRead.TheVariants.{Good, Bad}
+use Rattle.encoding.specs.declared.Front.{Front}
 use Rattle.encoding.specs.Bytes.{are_bytes}
 use Rattle.encoding.specs.Encode.{ops_bytes, year_byte, head_bytes, encoded}
 use Rattle.encoding.specs.Decode.{head_of, ops_from, on_head, holding, decoded}
 use Rattle.encoding.specs.Decoded.{DecodesExactly}
 use Rattle.encoding.proofs.Bytes.{bytes-at, bytes-append, bytes-zeros}
-use Rattle.encoding.proofs.Heads.{counting, year-small, Head, head-sound, head-complete, written-length}
+use Rattle.encoding.proofs.Heads.{counting, year-small, IsHead, head-sound, head-complete, written-length}
 use Rattle.encoding.proofs.Sequences.{Read, sequence-sound, sequence-complete}
 use Rattle.encoding.proofs.Storing.{ops-length}
 use Rattle.encoding.proofs.Written.{ops-bytes, head-bytes}
@@ -46,7 +47,7 @@ module _ (y : Year) (n : ℕ) (xs : List Entry) (c : Counts (counting n (length 
   bytes-are = ap (λ (ys : List Entry). head_bytes n (length xs) (year_byte y) ++ (ops_bytes ys ++ replicate (504 - 8 * length xs) 0)) taken-are
 
 -- Decoded, then encoded
-module _ (b : List ℕ) (n m : ℕ) (y : Year) (xs : List Entry) (h : Head b n m y) (r : Read b n 0 m xs) where
+module _ (b : List ℕ) (n m : ℕ) (y : Year) (xs : List Entry) (h : IsHead b n m y) (r : Read b n 0 m xs) where
   counted : Counts (counting n (length xs))
   counted = subst (λ (k : ℕ). Counts (counting n k)) (sym r.many) h.counted
 
@@ -68,21 +69,21 @@ module _ (b : List ℕ) (n m : ℕ) (y : Year) (xs : List Entry) (h : Head b n m
         ∙ sym (bytes-are y n xs counted r.each),
   )
 
-holding-sound : (b : List ℕ) (c : Codelist) (n m : ℕ) (y : Year) → Head b n m y → (r : Option (List Entry)) → ops_from b n 0 m ≡ r → holding y n r ≡ some c
+holding-sound : (b : List ℕ) (c : Codelist) (n m : ℕ) (y : Year) → IsHead b n m y → (r : Option (List Entry)) → ops_from b n 0 m ≡ r → holding y n r ≡ some c
     → WellFormed c × (b ≡ encoded c)
 holding-sound b c n m y h (some xs) p q =
     let e : codelist_of y n xs ≡ c = cc in
     subst (λ (d : Codelist). WellFormed d × (b ≡ encoded d)) e (sound b n m y xs h (sequence-sound b h.bytes n 0 m xs p))
-holding-sound b c n m y h none p q = absurd (let z : ◌≡◌ {A = ℕ} 0 1 = cc in omega arith)
+holding-sound b c n m y h none p q = cc
 
 decoded-sound : (b : List ℕ) (c : Codelist) → decoded b ≡ some c → WellFormed c × (b ≡ encoded c)
 unfolding decoded
 decoded-sound b c p = go (head_of b) refl p
   where
-    go : (r : HeadRead) → head_of b ≡ r → on_head r (λ factors count year. holding year factors (ops_from b factors 0 count)) ≡ some c
+    go : (r : read.Option Front) → head_of b ≡ r → on_head r (λ h. holding h.year h.factors (ops_from b h.factors 0 h.count)) ≡ some c
         → WellFormed c × (b ≡ encoded c)
-    go (Good n m y) q t = holding-sound b c n m y (head-sound b n m y q) (ops_from b n 0 m) refl t
-    go Bad q t = absurd (let z : ◌≡◌ {A = ℕ} 0 1 = cc in omega arith)
+    go (Some h) q t = holding-sound b c h.factors h.count h.year (head-sound b h q) (ops_from b h.factors 0 h.count) refl t
+    go None q t = cc
 
 -- Encoded, then decoded
 module _ (c : Codelist) (w : WellFormed c) where

@@ -1,22 +1,24 @@
 -- The front of the bytes, and the zeros behind the last operation: read back, and what is read.
 use Prim.Native.Nat.{ℕ, suc, zero, ◌+◌, ◌-◌, ◌*◌, ◌≤◌}
-use mathlib.Core.Bool.{Bool, true, false, cond}
+use mathlib.Core.Bool.{true}
 use mathlib.Core.List.{List, [], ◌∷◌, ◌++◌}
-use mathlib.Core.Path.{◌≡◌, refl, ap, ◌∙◌}
+use mathlib.Core.Path.{◌≡◌, refl, ap, subst, ◌∙◌}
 use native.Mathlib.Omega.{arith}
 use lib.Dec.{eqb}
 use lib.ListN.{length, get_or, take, drop, replicate, length-drop, length-append, length-replicate}
 use lib.Seq.{drop_at, length-take-le}
 use borrow.Author.Tests.{eqb-true, leb-true, eq-eqb, le-leb}
+use Rattle.std.proofs.lemmas.Option.{cond_some}
+use Rattle.std.specs.declared.option.Option.TheVariants.{Some}
 use Rattle.codelist.specs.declared.Codelist.{Codelist}
 use Rattle.codelist.specs.declared.Year.{Year}
 use Rattle.codelist.specs.declared.Year.TheVariants.{Y2016, Y2014}
 use Rattle.codelist.proofs.Laws.{both_true, both-made}
 use Rattle.codelist.proofs.Ratable.{Counts, counts}
-use Rattle.encoding.specs.declared.HeadRead.TheVariants.{Good, Bad}
+use Rattle.encoding.specs.declared.Front.{Front}
 use Rattle.encoding.specs.Bytes.{are_bytes, are_zero}
 use Rattle.encoding.specs.Encode.{year_byte, head_bytes}
-use Rattle.encoding.specs.Decode.{counts_fit, is_year, year_of_byte, head_of}
+use Rattle.encoding.specs.Decode.{counts_fit, is_year, year_of_byte, at_front, head_of}
 use Rattle.encoding.proofs.Bytes.{first}
 use Rattle.encoding.proofs.Zeros.{zeros-are, zeros-pass}
 
@@ -39,7 +41,7 @@ byte-back (suc zero) e = refl
 byte-back (suc (suc b)) e = absurd (omega (arith, leb-true (suc (suc b)) 1 e))
 
 -- What is read as n factors, m operations and the year y
-pub record Head (b : List ℕ) (n m : ℕ) (y : Year) : Type 0 where
+pub record IsHead (b : List ℕ) (n m : ℕ) (y : Year) : Type 0 where
   pub long : length b ≡ 512
   pub bytes : are_bytes b ≡ true
   pub fit : counts_fit n m ≡ true
@@ -50,17 +52,13 @@ pub record Head (b : List ℕ) (n m : ℕ) (y : Year) : Type 0 where
 zeros_of : (s : List ℕ) (n : ℕ) → are_zero s ≡ true → length s ≡ n → s ≡ replicate n 0
 zeros_of s n z e = zeros-are s z ∙ ap (λ (k : ℕ). replicate k 0) e
 
-test-inv : (t : Bool) (i j n m : ℕ) (x y : Year) → cond t (Good i j x) Bad ≡ Good n m y → (t ≡ true) × (i ≡ n) × (j ≡ m) × (x ≡ y)
-test-inv true i j n m x y q = (refl, cc, cc, cc)
-test-inv false i j n m x y q = absurd (let z : ◌≡◌ {A = ℕ} 0 1 = cc in omega arith)
-
-pub head-sound : (b : List ℕ) (n m : ℕ) (y : Year) → head_of b ≡ Good n m y → Head b n m y
+pub head-sound : (b : List ℕ) (h : Front) → head_of b ≡ Some h → IsHead b h.factors h.count h.year
 unfolding head_of
-head-sound b n m y p =
+head-sound b h p =
     let i = get_or b 0 0 in
     let j = get_or b 1 0 in
     let x = year_of_byte (get_or b 2 0) in
-    let u = test-inv _ i j n m x y p in
+    let u = cond_some _ (at_front b) h p in
     let t5 = both_true _ (are_zero (drop (8 + 8 * j) b)) u.0 in
     let t4 = both_true _ (are_zero (take 5 (drop 3 b))) t5.0 in
     let t3 = both_true _ (is_year (get_or b 2 0)) t4.0 in
@@ -68,7 +66,7 @@ head-sound b n m y p =
     let t1 = both_true (eqb (length b) 512) (are_bytes b) t2.0 in
     let l = eqb-true (length b) 512 t1.0 in
     let c = counts (counting i j) t2.1 in
-    let made : Head b i j x = record {
+    let made : IsHead b i j x = record {
       long = l;
       bytes = t1.1;
       fit = t2.1;
@@ -78,7 +76,7 @@ head-sound b n m y p =
           ∙ ap (λ (s : List ℕ). i ∷ j ∷ year_byte x ∷ s) (zeros_of (take 5 (drop 3 b)) 5 t4.1 (length-take-le 5 (drop 3 b) (omega (arith, length-drop 3 b)))));
       behind = zeros_of (drop (8 + 8 * j) b) (504 - 8 * j) t5.1 (omega (arith, length-drop (8 + 8 * j) b, c.few, c.factors));
     } in
-    rw (u.1, u.2, u.3) at made
+    subst (λ (h : Front). IsHead b h.factors h.count h.year) u.1 made
 
 -- Of bytes that are written so
 module _ (n m : ℕ) (y : Year) (c : Counts (counting n m)) (s : List ℕ) (l : length s ≡ 8 * m) where
@@ -99,7 +97,7 @@ module _ (n m : ℕ) (y : Year) (c : Counts (counting n m)) (s : List ℕ) (l : 
   behind-pass =
       ap are_zero (drop_at (head_bytes n m (year_byte y) ++ s) (replicate (504 - 8 * m) 0) (8 + 8 * m) (omega arith)) ∙ zeros-pass (504 - 8 * m)
 
-  pub head-complete : are_bytes written ≡ true → head_of written ≡ Good n m y
+  pub head-complete : are_bytes written ≡ true → head_of written ≡ Some (record { factors = n; count = m; year = y })
   unfolding head_of are_zero
   head-complete b =
-      rw (eq-eqb (length written) 512 written-length, b, counts-pass, le-leb (year_byte y) 1 (year-small y), behind-pass) (ap (Good n m) (year-back y))
+      rw (eq-eqb (length written) 512 written-length, b, counts-pass, le-leb (year_byte y) 1 (year-small y), behind-pass) (ap (λ (z : Year). Some (record { factors = n; count = m; year = z })) (year-back y))

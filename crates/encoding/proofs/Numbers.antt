@@ -15,6 +15,7 @@ use mir.Facts.{to_z_pos, to_z-of_z}
 use mir.Syntax.{w64}
 use mir.Val.{SFits, to_z, of_z}
 use borrow.Author.Tests.{lt-ltb, le-ltb, ltb-true}
+use Rattle.std.specs.Int.{w32, from_le_bytes, to_le_bytes}
 use Rattle.exact.specs.Units.{limit}
 use Rattle.codelist.proofs.Laws.{back, both_true}
 use Rattle.encoding.specs.Bytes.{are_bytes, low_first, number_of}
@@ -55,6 +56,18 @@ number-four s at h =
     let c = number_step s (at + 2) (at + 3) 1 (omega arith) (omega arith) in
     let d = number_step s (at + 3) (at + 4) 0 (omega arith) (omega arith) in
     omega arith
+
+-- The four bytes of a number as std has them
+pub four-read : (s : List ℕ) → 8 ≤ length s
+    → from_le_bytes w32 (get_or s 4 0 ∷ get_or s 5 0 ∷ get_or s 6 0 ∷ get_or s 7 0 ∷ []) ≡ number_of (take 4 (drop 4 s))
+four-read s h = let e = number-four s 4 (omega arith) in omega arith
+
+pub four-written : (u : ℕ) → to_le_bytes w32 u ≡ low_first 4 u
+unfolding low_first
+four-written u =
+    let p : u / 65536 ≡ u / 256 / 256 = omega arith in
+    let q : u / 16777216 ≡ u / 256 / 256 / 256 = omega arith in
+    rw (p, q)
 
 pub shifted-small : (c : ℤ) → nat_abs c ≤ limit → shifted c < 256 ^ 4
 shifted-small (pos n) h = omega arith

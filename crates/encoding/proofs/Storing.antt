@@ -5,7 +5,8 @@ use mathlib.Core.Path.{◌≡◌, refl, sym, ap, ◌∙◌}
 use native.Mathlib.Numerals.{add-one}
 use native.Mathlib.Omega.{arith}
 use lib.ListN.{length, get_or, set, take, drop, replicate, length-append, length-replicate}
-use lib.Seq.{sets, sets-eq, take_at, drop-append-add, take-suc, length-take-le}
+use lib.Seq.{take_at, drop_at, take-suc, length-take-le}
+use borrow.Rule.Slice.PartMut.{put_mid}
 use Rattle.codelist.specs.declared.Entry.{Entry}
 use Rattle.codelist.specs.declared.Op.{Op}
 use Rattle.codelist.specs.declared.Op.TheVariants.{Add, Mul, AddC, MulC, Pow, Inv}
@@ -46,12 +47,10 @@ drop-zeros zero m = let e : m ≡ m - 0 = omega arith in ap zeros e
 drop-zeros (suc n) zero = let e : 0 ≡ 0 - suc n = omega arith in ap zeros e
 drop-zeros (suc n) (suc m) = let e : m - n ≡ suc m - suc n = omega arith in drop-zeros n m ∙ ap zeros e
 
--- A run of stores where zeros begin
-sets-zeros : (p vs : List ℕ) (i m : ℕ) → length p ≡ i → length vs ≤ m → sets (p ++ zeros m) i vs ≡ p ++ (vs ++ zeros (m - length vs))
-sets-zeros p vs i m e h =
-    let z : length (zeros m) ≡ m = length-replicate m _ in
-    sets-eq vs (p ++ zeros m) i (omega (arith, length-append p (zeros m)))
-    ∙ rw (take_at p (zeros m) i e, ← e, drop-append-add p (zeros m) (length vs), drop-zeros (length vs) m) (append_assoc p vs (zeros (m - length vs)))
+-- Bytes put where zeros begin
+put-zeros : (p vs : List ℕ) (i j m : ℕ) → length p ≡ i → j ≡ length vs → put_mid i j (p ++ zeros m) vs ≡ p ++ (vs ++ zeros (m - length vs))
+put-zeros p vs i j m e h =
+    rw (take_at p (zeros m) i e, drop_at p (zeros m) i e, h, drop-zeros (length vs) m)
 
 abbrev pub stored : ℕ → ℕ → ℕ → List Entry → ℕ → List ℕ
 stored n count year xs k = head_bytes n count year ++ (ops_bytes (take k xs) ++ replicate (504 - 8 * k) 0)
@@ -70,7 +69,7 @@ module _ (n count year : ℕ) (xs : List Entry) (k : ℕ) (h : k ≤ length xs) 
       omega (arith, length-append (ops_bytes (take k xs)) (zeros (504 - 8 * k)), front_length)
 
 pub stored_more : (n count year : ℕ) (xs : List Entry) (k : ℕ) (d : Entry) → k < length xs → k < 63
-    → sets (stored n count year xs k) (8 + 8 * k) (op_bytes (get_or xs k d).op) ≡ stored n count year xs (k + 1)
+    → put_mid (8 + 8 * k) (8 + 8 * k + 8 - (8 + 8 * k)) (stored n count year xs k) (op_bytes (get_or xs k d).op) ≡ stored n count year xs (k + 1)
 stored_more n count year xs k d h r =
     let o = (get_or xs k d).op in
     let p = head_bytes n count year ++ ops_bytes (take k xs) in
@@ -78,7 +77,8 @@ stored_more n count year xs k d h r =
     let more : ops_bytes (take (k + 1) xs) ≡ ops_bytes (take k xs) ++ op_bytes o =
     ap (λ (j : ℕ). ops_bytes (take j xs)) (add-one k) ∙ ap ops_bytes (take-suc xs k d h) ∙ ops_append (take k xs) (get_or xs k d ∷ [])
     ∙ ap (λ (t : List ℕ). ops_bytes (take k xs) ++ t) (ops-one (get_or xs k d)) in
-    sets-zeros p (op_bytes o) (8 + 8 * k) (504 - 8 * k) (front_length n count year xs k (omega arith) (omega arith)) (omega (arith, op-length o))
+    let j : 8 + 8 * k + 8 - (8 + 8 * k) ≡ length (op_bytes o) = omega (arith, op-length o) in
+    put-zeros p (op_bytes o) (8 + 8 * k) _ (504 - 8 * k) (front_length n count year xs k (omega arith) (omega arith)) j
     ∙ ap (λ (j : ℕ). p ++ (op_bytes o ++ zeros j)) m
     ∙ ap (λ (t : List ℕ). head_bytes n count year ++ t)
     (sym (rw more (append_assoc (ops_bytes (take k xs)) (op_bytes o) (zeros (504 - 8 * (k + 1))))))

@@ -1,5 +1,7 @@
 -- Bytes as a codelist, or none: by rules on the bytes, in the order in which they lie.
-use Rattle.std.specs.Prelude.{ℕ, suc, zero, ◌+◌, ◌*◌, Bool, true, false, cond, ◌&&◌, List, [], ◌∷◌, leb, ltb, eqb, ℤ, pos, ◌-ℤ◌, length, get_or, take, drop}
+use Rattle.std.specs.Prelude.{ℕ, suc, zero, ◌+◌, ◌*◌, Bool, true, false, cond, ◌&&◌, List, [], ◌∷◌, leb, ltb, eqb, ℤ, pos, ◌-ℤ◌, is_some, length, get_or, take, drop}
+use Rattle.std.specs.declared.option.Option as read
+use Rattle.std.specs.declared.option.Option.TheVariants.{Some, None}
 use Rattle.std.proofs.Math.Option
 use Rattle.std.proofs.Math.Option.{Option, none, some}
 use Rattle.codelist.specs.declared.Codelist.{Codelist}
@@ -12,10 +14,7 @@ use Rattle.exact.specs.Units.{limit}
 use Rattle.codelist.specs.Codelist.{well_formed_op}
 use Rattle.codelist.specs.Load.{empty, codelist_of}
 use Rattle.encoding.specs.Bytes.{are_bytes, are_zero, number_of}
-use Rattle.encoding.specs.declared.HeadRead as head
-use Rattle.encoding.specs.declared.HeadRead.{HeadRead}
-use Rattle.encoding.specs.declared.OpRead.{OpRead}
-use Rattle.encoding.specs.declared.OpRead.TheVariants.{Good, Bad}
+use Rattle.encoding.specs.declared.Front.{Front}
 
 -- The first eight bytes, and the zeros behind the last operation
 abbrev pub counts_fit : ℕ → ℕ → Bool
@@ -32,40 +31,43 @@ is_head b =
     eqb (length b) 512 && are_bytes b && counts_fit (get_or b 0 0) (get_or b 1 0) && is_year (get_or b 2 0)
     && are_zero (take 5 (drop 3 b)) && are_zero (drop (8 + 8 * get_or b 1 0) b)
 
-unfoldable pub head_of : List ℕ → HeadRead
-head_of b = cond (is_head b) (head.TheVariants.Good (get_or b 0 0) (get_or b 1 0) (year_of_byte (get_or b 2 0))) head.TheVariants.Bad
+abbrev pub at_front : List ℕ → Front
+at_front b = record { factors = get_or b 0 0; count = get_or b 1 0; year = year_of_byte (get_or b 2 0) }
+
+unfoldable pub head_of : List ℕ → read.Option Front
+head_of b = cond (is_head b) (Some (at_front b)) None
 
 -- An operation of its eight bytes: kind, i, j or m, a zero, and the number u of the last four
-abbrev pub given : Bool → Op → OpRead
-given t o = cond t (Good o) Bad
+abbrev pub given : Bool → Op → read.Option Op
+given t o = cond t (Some o) None
 
 abbrev pub constant_of : ℕ → ℤ
 constant_of u = pos u -ℤ pos limit
 
-unfoldable pub formed : ℕ → ℕ → ℕ → ℕ → ℕ → OpRead
+unfoldable pub formed : ℕ → ℕ → ℕ → ℕ → ℕ → read.Option Op
 formed kind i j z u =
     cond (eqb kind 1) (given (eqb z 0 && eqb u 0) (Add i j))
     (cond (eqb kind 2) (given (eqb z 0 && eqb u 0) (Mul i j))
     (cond (eqb kind 3) (given (eqb z 0 && eqb j 0) (AddC i (constant_of u)))
     (cond (eqb kind 4) (given (eqb z 0 && eqb j 0) (MulC i (constant_of u)))
     (cond (eqb kind 5) (given (eqb z 0 && eqb u 0) (Pow i j))
-    (cond (eqb kind 6) (given (eqb z 0 && eqb j 0 && eqb u 0) (Inv i)) Bad)))))
+    (cond (eqb kind 6) (given (eqb z 0 && eqb j 0 && eqb u 0) (Inv i)) None)))))
 
-unfoldable pub operation : List ℕ → OpRead
+unfoldable pub operation : List ℕ → read.Option Op
 operation s = formed (get_or s 0 0) (get_or s 1 0) (get_or s 2 0) (get_or s 3 0) (number_of (take 4 (drop 4 s)))
 
 -- The operation at k, with e codelist lines before it: it is well formed
-abbrev pub fitting : ℕ → OpRead → OpRead
-fitting e (Good o) = given (well_formed_op e o) o
-fitting e Bad = Bad
+abbrev pub fitting : ℕ → read.Option Op → read.Option Op
+fitting e (Some o) = given (well_formed_op e o) o
+fitting e None = None
 
-unfoldable pub op_at : List ℕ → ℕ → ℕ → OpRead
-op_at b k e = cond (eqb (length b) 512 && ltb k 63) (fitting e (operation (drop (8 + 8 * k) b))) Bad
+unfoldable pub op_at : List ℕ → ℕ → ℕ → read.Option Op
+op_at b k e = cond (eqb (length b) 512 && ltb k 63) (fitting e (operation (drop (8 + 8 * k) b))) None
 
 -- So many operations from k on, the first with e codelist lines before it
-abbrev pub on_op : OpRead → (Op → Option (List Entry)) → Option (List Entry)
-on_op (Good o) f = f o
-on_op Bad f = none
+abbrev pub on_op : read.Option Op → (Op → Option (List Entry)) → Option (List Entry)
+on_op (Some o) f = f o
+on_op None f = none
 
 abbrev pub before : Op → Option (List Entry) → Option (List Entry)
 before o (some xs) = some (record { op = o } ∷ xs)
@@ -76,25 +78,21 @@ ops_from b e k zero = some []
 ops_from b e k (suc m) = on_op (op_at b k e) (λ o. before o (ops_from b (e + 1) (k + 1) m))
 
 -- Whether so many operations from k on are well formed
-abbrev pub is_good : OpRead → Bool
-is_good (Good o) = true
-is_good Bad = false
-
 unfoldable pub are_ops : List ℕ → ℕ → ℕ → ℕ → Bool
 are_ops b e k zero = true
-are_ops b e k (suc m) = is_good (op_at b k e) && are_ops b (e + 1) (k + 1) m
+are_ops b e k (suc m) = is_some (op_at b k e) && are_ops b (e + 1) (k + 1) m
 
 -- BYTES AS A CODELIST
-abbrev pub on_head : HeadRead → (ℕ → ℕ → Year → Option Codelist) → Option Codelist
-on_head (head.TheVariants.Good factors count year) f = f factors count year
-on_head head.TheVariants.Bad f = none
+abbrev pub on_head : read.Option Front → (Front → Option Codelist) → Option Codelist
+on_head (Some h) f = f h
+on_head None f = none
 
 abbrev pub holding : Year → ℕ → Option (List Entry) → Option Codelist
 holding year factors (some xs) = some (codelist_of year factors xs)
 holding year factors none = none
 
 unfoldable pub decoded : List ℕ → Option Codelist
-decoded b = on_head (head_of b) (λ factors count year. holding year factors (ops_from b factors 0 count))
+decoded b = on_head (head_of b) (λ h. holding h.year h.factors (ops_from b h.factors 0 h.count))
 
 -- The codelist that lent bytes hold: the empty one, which rates as 10, where they hold none
 unfoldable pub lent_codelist : List ℕ → Codelist

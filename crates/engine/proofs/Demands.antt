@@ -13,7 +13,7 @@ use Rattle.codelist.specs.Load as Load
 use Rattle.codelist.proofs.Ratable.{well-formed-ratable}
 use Rattle.rules.specs.declared.Refusal as rules
 use Rattle.rules.specs.declared.Limits.{Limits}
-use Rattle.rules.specs.declared.Rating.{Rating}
+use Rattle.rules.specs.InFull.{Rating}
 use Rattle.rules.specs.Rate as Rate
 use Rattle.rules.specs.Rate.{no_limits, rate_of, rate_ranges, finished, first_bad}
 use Rattle.rules.specs.Run.{Lines, through, stopped, lines_of}
@@ -28,7 +28,7 @@ use Rattle.rules.proofs.Refused as rates
 use Rattle.engine.specs.declared.Engine.{Engine}
 use Rattle.engine.specs.declared.Refusal as refusal
 use Rattle.engine.specs.declared.Refusal.{Refusal}
-use Rattle.engine.specs.declared.Outcome.TheVariants.{Accepted, Refused}
+use Rattle.engine.specs.InFull.{Accepted, Refused}
 use Rattle.engine.specs.Engine.{empty_engine, loaded_of, outcome_of, as_rating, rated_of}
 use Rattle.engine.specs.Refusals.{RefusedWith, RateTable, count, range, no-codelist, divisor, overflow}
 use Rattle.engine.specs.Demands.{Demands}

@@ -1,7 +1,7 @@
 -- Swapped references change no answer of the engine's calls: `exchange-calls`. Assumes nothing.
 use mathlib.Core.Path.{refl, ap}
 use Rattle.codelist.specs.declared.Codelist.{Codelist}
-use Rattle.codelist.specs.declared.Outcome as loading
+use Rattle.codelist.specs.InFull as loading
 use Rattle.codelist.specs.Load as Load
 use Rattle.codelist.specs.Exchange.{Exchanged}
 use Rattle.codelist.proofs.Exchange.{exchange-load}
@@ -13,8 +13,8 @@ use Rattle.engine.specs.Exchange.{ExchangedEngine, LoadingAlike, ExchangeCalls}
 -- one outcome, and what it leaves
 left-alike : (e f : Engine) (c d : Codelist) (o : loading.Outcome) → ExchangedEngine e f → Exchanged c d
     → LoadingAlike (loaded e o c) (loaded f o d)
-left-alike e f c d loading.TheVariants.Accepted h k = record { outcome = refl; engine = k }
-left-alike e f c d (loading.TheVariants.Refused r) h k = record { outcome = refl; engine = h }
+left-alike e f c d loading.Accepted h k = record { outcome = refl; engine = k }
+left-alike e f c d (loading.Refused r) h k = record { outcome = refl; engine = h }
 
 pub exchange-calls : ExchangeCalls
 unfolding loaded_of rated_of

@@ -6,7 +6,7 @@ use Prim.Native.Nat.{ℕ}
 use native.Mathlib.Omega.{arith}
 use lib.Dec.{lit≤}
 use Rattle.codelist.specs.declared.Codelist.{Codelist}
-use Rattle.codelist.specs.declared.Loaded.{Loaded}
+use Rattle.codelist.specs.InFull.{Loaded}
 use Rattle.codelist.specs.declared.Refusal as codelist
 use Rattle.codelist.specs.Load as Load
 use Rattle.codelist.specs.Refused.{RefusedFor}
@@ -24,8 +24,7 @@ use Rattle.formulas.proofs.Promises.{formulas-exactly}
 use Rattle.engine.specs.declared.Engine.{Engine}
 use Rattle.engine.specs.declared.Refusal as refusal
 use Rattle.engine.specs.declared.Refusal.{Refusal}
-use Rattle.engine.specs.declared.Loading.{Loading}
-use Rattle.engine.specs.declared.Outcome.TheVariants.{Accepted, Refused}
+use Rattle.engine.specs.InFull.{Accepted, Refused, Loading}
 use Rattle.engine.specs.Engine.{number_of, loaded_of, formula_loaded, formula_loaded_of}
 use Rattle.engine.specs.Refusals.{RefusedWith, FormulaTable, text, constants, sheet}
 use Rattle.engine.proofs.Loads as Loads

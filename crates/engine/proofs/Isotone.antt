@@ -1,6 +1,6 @@
 -- Narrower ranges give a narrower rating, of the engine's call: `isotone-call`. Assumes nothing.
 use mathlib.Core.Path.{sym, ap, subst}
-use Rattle.rules.specs.declared.Rating.{Rating}
+use Rattle.rules.specs.InFull.{Rating}
 use Rattle.rules.specs.Isotone.{NarrowerLimits}
 use Rattle.rules.proofs.Isotone.{isotone}
 use Rattle.engine.specs.Engine.{rated_of, outcome_of}

@@ -1,4 +1,5 @@
 pub mod Loads
+pub mod Sheets
 pub mod Formulas
 pub mod Demands
 pub mod Validity

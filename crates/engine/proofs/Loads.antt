@@ -6,10 +6,10 @@ use Prim.Native.Nat.{ℕ, zero, suc, ◌<◌}
 use native.Mathlib.Omega.{arith}
 use lib.Dec.{lit≤}
 use lib.ListN.{length, get_or}
-use Rattle.codelist.specs.declared.Outcome as loading
+use Rattle.codelist.specs.InFull as loading
 use Rattle.codelist.specs.declared.Refusal as codelist
 use Rattle.codelist.specs.declared.Codelist.{Codelist}
-use Rattle.codelist.specs.declared.Loaded.{Loaded}
+use Rattle.codelist.specs.InFull.{Loaded}
 use Rattle.codelist.specs.Codelist.{WellFormed}
 use Rattle.codelist.specs.Load as Load
 use Rattle.codelist.specs.Refused.{RefusedFor}
@@ -19,7 +19,7 @@ use Rattle.codelist.proofs.Refused.{refused-exactly}
 use Rattle.engine.specs.declared.Engine.{Engine}
 use Rattle.engine.specs.declared.Refusal as refusal
 use Rattle.engine.specs.declared.Refusal.{Refusal}
-use Rattle.engine.specs.declared.Outcome.TheVariants.{Accepted, Refused}
+use Rattle.engine.specs.InFull.{Accepted, Refused}
 use Rattle.engine.specs.Engine.{number_of, loaded, loaded_of}
 use Rattle.engine.specs.Refusals.{RefusedWith, LoadTable, bytes, form, factors, year, lines, no-operation, reference, exponent, constant, multiplier}
 
@@ -35,12 +35,12 @@ is-in (suc i) (x ∷ xs) l = Memᴰ.tail (is-in i xs (omega arith))
 
 module _ (e : Engine) where
   pub decided : (o : loading.Outcome) (c : Codelist) → ((loaded e o c).outcome ≡ Accepted) ⊎ ((r : Refusal) × ((loaded e o c).outcome ≡ Refused r))
-  decided loading.TheVariants.Accepted c = inl refl
-  decided (loading.TheVariants.Refused r) c = inr (refusal.TheVariants.Load r, refl)
+  decided loading.Accepted c = inl refl
+  decided (loading.Refused r) c = inr (refusal.TheVariants.Load r, refl)
 
   pub kept : (o : loading.Outcome) (c : Codelist) (r : Refusal) → (loaded e o c).outcome ≡ Refused r → (loaded e o c).engine ≡ e
-  kept loading.TheVariants.Accepted c r h = not-both h
-  kept (loading.TheVariants.Refused q) c r h = refl
+  kept loading.Accepted c r h = not-both h
+  kept (loading.Refused q) c r h = refl
 
   number : (q : codelist.Refusal) → Memᴰ (Load.number_of q) Load.load_numbers
   number codelist.TheVariants.TooLong = is-in 0 _ (lit≤ tt)
@@ -55,18 +55,18 @@ module _ (e : Engine) where
   number (codelist.TheVariants.ZeroMultiplier p) = is-in 8 _ (lit≤ tt)
 
   -- what the outcome says of the codelist's own
-  was-accepted : (o : loading.Outcome) (c : Codelist) → (loaded e o c).outcome ≡ Accepted → o ≡ loading.TheVariants.Accepted
-  was-accepted loading.TheVariants.Accepted c h = refl
-  was-accepted (loading.TheVariants.Refused r) c h = not-both (sym h)
+  was-accepted : (o : loading.Outcome) (c : Codelist) → (loaded e o c).outcome ≡ Accepted → o ≡ loading.Accepted
+  was-accepted loading.Accepted c h = refl
+  was-accepted (loading.Refused r) c h = not-both (sym h)
 
   was-refused : (o : loading.Outcome) (c : Codelist) (r : codelist.Refusal)
-      → (loaded e o c).outcome ≡ Refused (refusal.TheVariants.Load r) → o ≡ loading.TheVariants.Refused r
-  was-refused loading.TheVariants.Accepted c r h = not-both h
-  was-refused (loading.TheVariants.Refused q) c r h = cc
+      → (loaded e o c).outcome ≡ Refused (refusal.TheVariants.Load r) → o ≡ loading.Refused r
+  was-refused loading.Accepted c r h = not-both h
+  was-refused (loading.Refused q) c r h = cc
 
   pub load-number : (o : loading.Outcome) (c : Codelist) (r : Refusal) → (loaded e o c).outcome ≡ Refused r → Memᴰ (number_of r) Load.load_numbers
-  load-number loading.TheVariants.Accepted c r h = not-both h
-  load-number (loading.TheVariants.Refused q) c r h =
+  load-number loading.Accepted c r h = not-both h
+  load-number (loading.Refused q) c r h =
       let k : refusal.TheVariants.Load q ≡ r = cc in rw (← k) (number q)
 
   module _ (s : List ℕ) where
@@ -133,8 +133,8 @@ module _ (e : Engine) (s : List ℕ) where
   load-own r h = go (Load.load_of s).outcome h
     where
       go : (o : loading.Outcome) → (loaded e o (Load.load_of s).codelist).outcome ≡ Refused r → (q : codelist.Refusal) × (r ≡ refusal.TheVariants.Load q)
-      go loading.TheVariants.Accepted h = not-both h
-      go (loading.TheVariants.Refused q) h = (q, cc)
+      go loading.Accepted h = not-both h
+      go (loading.Refused q) h = (q, cc)
 
   pub to-load-table : {k p : ℕ} → RefusedWith (loaded_of e s).outcome k p → LoadTable s k p
   to-load-table w =

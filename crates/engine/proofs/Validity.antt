@@ -19,14 +19,14 @@ use Rattle.range.specs.Sums.{at}
 use Rattle.range.proofs.Fitting.{hull-valid, hull_of-is}
 use Rattle.rules.specs.declared.Line.{Line}
 use Rattle.rules.specs.declared.Limits.{Limits}
-use Rattle.rules.specs.declared.Outcome as rating
+use Rattle.rules.specs.InFull as rating
 use Rattle.rules.specs.declared.Refusal.TheVariants.{NoCodelist, RangeCount, Divisor, Overflow}
 use Rattle.rules.specs.Run.{Lines, through, stopped, each_valid, within, inverts_zero, row_of, run_ops, operations, lines_of}
 use Rattle.rules.specs.Table.{line_of}
 use Rattle.rules.specs.Rate.{last, limits_of, refused, pairs, finished, first_bad, rate_ranges, rate_of}
 use Rattle.rules.specs.Sets.{all_of}
 use Rattle.engine.specs.declared.Engine.{Engine}
-use Rattle.engine.specs.declared.Outcome.TheVariants.{Accepted}
+use Rattle.engine.specs.InFull.{Accepted}
 use Rattle.engine.specs.Engine.{outcome_of, rated_of}
 
 pub record Valid (l : Limits) : Type 0 where
@@ -103,11 +103,11 @@ run-last (o ∷ os) ls ms h e =
     run-keeps os (ls ++ (next o ls ∷ [])) ms (rw last_snoc s.0) s.1
 
 finished_valid : (n : ℕ) (r : Lines) → ((ms : List Line) → r ≡ through ms → within (last ms) ≡ true)
-    → (finished n r).outcome ≡ rating.TheVariants.Rated → Valid (finished n r).limits
+    → (finished n r).outcome ≡ rating.Rated → Valid (finished n r).limits
 finished_valid n (through ms) f e = limits-valid n (last ms) (f ms refl)
 finished_valid n (stopped r) f e = absurd (let z : ◌≡◌ {A = ℕ} 0 1 = cc e in omega arith)
 
-rate-valid : (c : Codelist) (xs : List ℤ) → (rate_of c xs).outcome ≡ rating.TheVariants.Rated → Valid (rate_of c xs).limits
+rate-valid : (c : Codelist) (xs : List ℤ) → (rate_of c xs).outcome ≡ rating.Rated → Valid (rate_of c xs).limits
 unfolding rate_of rate_ranges lines_of
 rate-valid c xs e = go (ratable c) refl (eqb (length xs) (2 * c.factors)) (first_bad 1 (pairs xs)) e
   where
@@ -115,7 +115,7 @@ rate-valid c xs e = go (ratable c) refl (eqb (length xs) (2 * c.factors)) (first
     some w = let f = (decides c).0 w in omega (arith, taken c f, f.some)
 
     go : (w : Bool) → ratable c ≡ w → (b : Bool) (a : ℕ)
-        → (cond w (cond b (rate_ranges c (pairs xs) a) (refused RangeCount)) (refused NoCodelist)).outcome ≡ rating.TheVariants.Rated
+        → (cond w (cond b (rate_ranges c (pairs xs) a) (refused RangeCount)) (refused NoCodelist)).outcome ≡ rating.Rated
         → Valid (cond w (cond b (rate_ranges c (pairs xs) a) (refused RangeCount)) (refused NoCodelist)).limits
     go false w b a h = absurd (let z : ◌≡◌ {A = ℕ} 0 1 = cc h in omega arith)
     go true w false a h = absurd (let z : ◌≡◌ {A = ℕ} 0 1 = cc h in omega arith)
@@ -126,6 +126,6 @@ pub accepted-valid : (e : Engine) (xs : List ℤ) → (rated_of e xs).outcome �
 unfolding rated_of
 accepted-valid e xs h = rate-valid e.codelist xs (rated (rate_of e.codelist xs).outcome h)
   where
-    rated : (o : rating.Outcome) → outcome_of o ≡ Accepted → o ≡ rating.TheVariants.Rated
-    rated rating.TheVariants.Rated a = refl
-    rated (rating.TheVariants.Refused r) a = absurd (let z : ◌≡◌ {A = ℕ} 0 1 = cc a in omega arith)
+    rated : (o : rating.Outcome) → outcome_of o ≡ Accepted → o ≡ rating.Rated
+    rated rating.Rated a = refl
+    rated (rating.Refused r) a = absurd (let z : ◌≡◌ {A = ℕ} 0 1 = cc a in omega arith)

@@ -29,7 +29,7 @@ use Rattle.formulas.specs.Exactly.{Spells, Becomes}
 use Rattle.engine.specs.declared.Engine.{Engine}
 use Rattle.engine.specs.declared.Refusal as refusal
 use Rattle.engine.specs.declared.Refusal.{Refusal}
-use Rattle.engine.specs.declared.Outcome.TheVariants.{Accepted, Refused}
+use Rattle.engine.specs.InFull.{Accepted, Refused}
 use Rattle.engine.specs.Engine.{number_of, empty_engine, loaded_of, formula_loaded_of, as_rating, rated_of}
 use Rattle.engine.specs.Refusals.{RefusedWith, LoadTable, FormulaTable, RateTable}
 

@@ -1,22 +1,19 @@
 -- The calls of the engine (01's "desk"): "A desk is started empty, a sheet is loaded from bytes, and ranges are rated against the loaded sheet. Loading
 -- replaces an earlier sheet. Rating changes nothing on the desk."
-use Rattle.std.specs.Prelude.{List, ℕ, ℤ}
-use Rattle.codelist.specs.declared.Outcome as loading
+use Rattle.std.specs.Prelude.{List, ℕ, ℤ, Result, Ok, Err}
+use Rattle.codelist.specs.InFull as loading
 use Rattle.codelist.specs.declared.Codelist.{Codelist}
-use Rattle.codelist.specs.declared.Loaded.{Loaded}
+use Rattle.codelist.specs.InFull.{Loaded}
 use Rattle.codelist.specs.Load as Load
-use Rattle.rules.specs.declared.Outcome as rating
-use Rattle.rules.specs.declared.Rating as rules
+use Rattle.rules.specs.InFull as rating
 use Rattle.rules.specs.Rate as Rate
+use Rattle.rules.specs.declared.Limits.{Limits}
 use Rattle.formulas.specs.Load as Formula
 use Rattle.formulas.specs.Load.{Given, given, refused, formula_of}
 use Rattle.engine.specs.declared.Engine.{Engine}
 use Rattle.engine.specs.declared.Refusal as refusal
 use Rattle.engine.specs.declared.Refusal.{Refusal}
-use Rattle.engine.specs.declared.Outcome.{Outcome}
-use Rattle.engine.specs.declared.Outcome.TheVariants.{Accepted, Refused}
-use Rattle.engine.specs.declared.Loading.{Loading}
-use Rattle.engine.specs.declared.Rating.{Rating}
+use Rattle.engine.specs.InFull.{Outcome, Accepted, Refused, Loading, Rating}
 
 -- 01's number and place of each refusal
 abbrev pub number_of : Refusal → ℕ
@@ -35,8 +32,8 @@ empty_engine = record { codelist = Load.empty }
 
 -- "Loading replaces an earlier sheet", and of a refusal "the desk is as before"
 abbrev pub loaded : Engine → loading.Outcome → Codelist → Loading
-loaded e loading.TheVariants.Accepted c = record { outcome = Accepted; engine = record { codelist = c } }
-loaded e (loading.TheVariants.Refused r) c = record { outcome = Refused (refusal.TheVariants.Load r); engine = e }
+loaded e loading.Accepted c = record { outcome = Accepted; engine = record { codelist = c } }
+loaded e (loading.Refused r) c = record { outcome = Refused (refusal.TheVariants.Load r); engine = e }
 
 unfoldable pub loaded_of : Engine → List ℕ → Loading
 loaded_of e s = loaded e (Load.load_of s).outcome (Load.load_of s).codelist
@@ -51,11 +48,20 @@ formula_loaded_of e s k = formula_loaded e (formula_of s k)
 
 -- Rating is a function of the codelist and the ranges
 abbrev pub outcome_of : rating.Outcome → Outcome
-outcome_of rating.TheVariants.Rated = Accepted
-outcome_of (rating.TheVariants.Refused r) = Refused (refusal.TheVariants.Rate r)
+outcome_of rating.Rated = Accepted
+outcome_of (rating.Refused r) = Refused (refusal.TheVariants.Rate r)
 
-abbrev pub as_rating : rules.Rating → Rating
+abbrev pub as_rating : rating.Rating → Rating
 as_rating r = record { outcome = outcome_of r.outcome; limits = r.limits }
 
 unfoldable pub rated_of : Engine → List ℤ → Rating
 rated_of e xs = as_rating (Rate.rate_of e.codelist xs)
+
+-- The code's answers in full: "A refusal carries number and place, every other field is 0", and of a refused load "the desk is as before"
+abbrev pub in_full : Result Limits Refusal → Rating
+in_full (Ok l) = record { outcome = Accepted; limits = l }
+in_full (Err r) = record { outcome = Refused r; limits = Rate.no_limits }
+
+abbrev pub loading_in_full : Result Unit Refusal → Engine → Loading
+loading_in_full (Ok _) e = record { outcome = Accepted; engine = e }
+loading_in_full (Err r) e = record { outcome = Refused r; engine = e }

@@ -3,7 +3,7 @@
 use Rattle.std.specs.Prelude.{◌≡◌, List, ℕ, ℤ}
 use Rattle.codelist.specs.Exchange.{Exchanged, ExchangedText}
 use Rattle.engine.specs.declared.Engine.{Engine}
-use Rattle.engine.specs.declared.Loading.{Loading}
+use Rattle.engine.specs.InFull.{Loading}
 use Rattle.engine.specs.Engine.{loaded_of, rated_of}
 
 -- engines whose codelists differ in swapped references alone: two that are empty, too

@@ -3,7 +3,7 @@
 use Rattle.std.specs.Prelude.{◌≡◌, List, ℤ}
 use Rattle.rules.specs.Isotone.{InsideRanges, NarrowerLimits}
 use Rattle.engine.specs.declared.Engine.{Engine}
-use Rattle.engine.specs.declared.Outcome.TheVariants.{Accepted}
+use Rattle.engine.specs.InFull.{Accepted}
 use Rattle.engine.specs.Engine.{rated_of}
 
 pub record NarrowerRating (e : Engine) (xs ys : List ℤ) : Type 0 where

@@ -1,4 +1,5 @@
--- The state between calls, the three demands of what its calls give, and the committee's two laws.
+-- The answers in full, the state between calls, the three demands of what its calls give, and the committee's two laws.
+pub mod InFull
 pub mod Engine
 pub mod Refusals
 pub mod Demands

@@ -12,8 +12,7 @@ use Rattle.formulas.specs.Viable.{Fails}
 use Rattle.formulas.specs.Convert.{Mixes, Bare}
 use Rattle.formulas.specs.Exactly.{Spells, Becomes}
 use Rattle.engine.specs.declared.Refusal.{Refusal}
-use Rattle.engine.specs.declared.Outcome.{Outcome}
-use Rattle.engine.specs.declared.Outcome.TheVariants.{Refused}
+use Rattle.engine.specs.InFull.{Outcome, Refused}
 use Rattle.engine.specs.Engine.{number_of, place_of}
 
 -- refused with the number k at the place p

@@ -2,8 +2,8 @@
 #![tactic(auto)]
 
 ghost use Rattle.std.specs.Prelude.{◌≡◌};
-ghost use Rattle.engine.specs.Engine.{number_of, place_of, empty_engine, loaded, loaded_of, formula_loaded_of, outcome_of, as_rating, rated_of};
-ghost use Rattle.rules.specs.Rate;
+ghost use Rattle.engine.specs.Engine.{number_of, place_of, empty_engine, loaded_of, formula_loaded_of, rated_of, in_full, loading_in_full};
+ghost use Rattle.engine.specs.declared.Refusal.TheVariants.{Load, Rate, Formula};
 
 use codelist::Codelist;
 use rules::Limits;
@@ -11,13 +11,14 @@ use rules::Limits;
 // Started empty; loading replaces the codelist, or, refused, keeps it. A codelist that can't be rated counts as none, as that of an empty engine:
 // one without factors or operations, with too many of them, or with an operation that is not well formed, as one that refers to a line that is
 // not earlier, or multiplies by 0.
+// No `Option`: the field is public, and whatever stands there has an outcome.
 #[derive(Clone, Copy)]
 pub struct Engine {
     pub codelist: Codelist,
 }
 
 // 01's refusals 1 to 12, and 15, 17, 19 and 20 of 02.
-#[derive(Clone, Copy)]
+#[derive(Clone, Copy, PartialEq, Eq)]
 pub enum Refusal {
     // 1 to 7, 15 and 17
     Load(codelist::Refusal),
@@ -27,24 +28,28 @@ pub enum Refusal {
     Formula(formulas::Refusal),
 }
 
-#[derive(Clone, Copy)]
-pub enum Outcome {
-    Accepted,
-    Refused(Refusal),
+impl From<codelist::Refusal> for Refusal {
+    ghost from_gives = { λ r e. e ≡ Load r };
+
+    fn from(r: codelist::Refusal) -> Self {
+        Self::Load(r)
+    }
 }
 
-// What loading gives: after a refusal the engine is what it was.
-#[derive(Clone, Copy)]
-pub struct Loading {
-    pub outcome: Outcome,
-    pub engine: Engine,
+impl From<rules::Refusal> for Refusal {
+    ghost from_gives = { λ r e. e ≡ Rate r };
+
+    fn from(r: rules::Refusal) -> Self {
+        Self::Rate(r)
+    }
 }
 
-// What rating gives: after a refusal every field of the limits is 0.
-#[derive(Clone, Copy)]
-pub struct Rating {
-    pub outcome: Outcome,
-    pub limits: Limits,
+impl From<formulas::Refusal> for Refusal {
+    ghost from_gives = { λ r e. e ≡ Formula r };
+
+    fn from(r: formulas::Refusal) -> Self {
+        Self::Formula(r)
+    }
 }
 
 impl Refusal {
@@ -54,7 +59,11 @@ impl Refusal {
     {
         match self {
             Refusal::Load(r) => r.number(),
-            Refusal::Rate(r) => rate_number(r),
+            Refusal::Rate(rules::Refusal::NoCodelist) => 10,
+            Refusal::Rate(rules::Refusal::RangeCount) => 8,
+            Refusal::Rate(rules::Refusal::BadRange(_)) => 9,
+            Refusal::Rate(rules::Refusal::Divisor(_)) => 11,
+            Refusal::Rate(rules::Refusal::Overflow(_)) => 12,
             Refusal::Formula(r) => r.number(),
         }
     }
@@ -65,117 +74,50 @@ impl Refusal {
     {
         match self {
             Refusal::Load(r) => r.place(),
-            Refusal::Rate(r) => rate_place(r),
+            Refusal::Rate(rules::Refusal::NoCodelist | rules::Refusal::RangeCount) => 0,
+            Refusal::Rate(rules::Refusal::BadRange(factor)) => u64::from(factor),
+            Refusal::Rate(rules::Refusal::Divisor(line) | rules::Refusal::Overflow(line)) =>
+                u64::from(line),
             Refusal::Formula(r) => r.place(),
         }
     }
 }
 
-fn rate_number(r: rules::Refusal) -> u8
-    ensures { result ≡ Rate.number_of r }
-{
-    match r {
-        rules::Refusal::NoCodelist => 10,
-        rules::Refusal::RangeCount => 8,
-        rules::Refusal::BadRange(_) => 9,
-        rules::Refusal::Divisor(_) => 11,
-        rules::Refusal::Overflow(_) => 12,
-    }
-}
-
-fn wide(x: u8) -> u64
-    ensures { result ≡ x }
-{
-    x as u64
-}
-
-fn rate_place(r: rules::Refusal) -> u64
-    ensures { result ≡ Rate.place_of r }
-{
-    match r {
-        rules::Refusal::NoCodelist => 0,
-        rules::Refusal::RangeCount => 0,
-        rules::Refusal::BadRange(a) => wide(a),
-        rules::Refusal::Divisor(k) => wide(k),
-        rules::Refusal::Overflow(k) => wide(k),
-    }
-}
-
 impl Engine {
     // An empty engine.
-    pub fn new() -> Engine
+    #[tactic(auto, unfolding(crate::specs::Engine::empty_engine))]
+    pub fn new() -> Self
         ensures { result ≡ empty_engine }
     {
-        let none = Codelist::empty();
-        Engine { codelist: none }
-    }
-
-    // The codelist of a text, or the refusal and the engine as it was.
-    pub fn load(self, bytes: &[u8]) -> Loading
-        ensures { result ≡ loaded_of self bytes.now }
-    {
-        let l = codelist::load(bytes);
-        let outcome = l.outcome;
-        let c = l.codelist;
-        replaced(self, outcome, c)
-    }
-
-    // The codelist of a formula with a factor count (02, request 12): its sheet is loaded as any other. Or the refusal and the engine as it was.
-    pub fn load_formula(self, text: &[u8], factors: u64) -> Loading
-        ensures { result ≡ formula_loaded_of self text.now factors }
-    {
-        let mut sheet = [0u8; 4097];
-        match formulas::convert(text, factors, &mut sheet) {
-            formulas::Converted::Sheet(len) => self.load(&sheet[..len]),
-            formulas::Converted::Refused(why) => Loading {
-                outcome: Outcome::Refused(Refusal::Formula(why)),
-                engine: self,
-            },
+        Self {
+            codelist: Codelist::empty(),
         }
     }
 
-    // The limits over the ranges, two numbers for each factor, or the refusal. The engine stays as it is.
-    pub fn rate(self, ranges: &[i64]) -> Rating
-        ensures { result ≡ rated_of self ranges.now }
+    // Loads the codelist of a text. After a refusal the engine is what it was.
+    #[tactic(auto, unfolding(crate::specs::Engine::loaded_of))]
+    pub fn load(&mut self, bytes: &[u8]) -> Result<(), Refusal>
+        ensures { loading_in_full result self.new ≡ loaded_of self.old bytes.now }
     {
-        let c = self.codelist;
-        as_rating(bounds::rate(c, ranges))
+        self.codelist = codelist::load(bytes)?;
+        Ok(())
     }
-}
 
-// What rating gave, as the engine's answer.
-fn as_rating(r: rules::Rating) -> Rating
-    ensures { result ≡ as_rating r }
-{
-    let outcome = r.outcome;
-    let limits = r.limits;
-    Rating {
-        outcome: answered(outcome),
-        limits: limits,
+    // Loads a formula with a factor count (02, request 12): its sheet is loaded as any other. After a refusal the engine is what it was.
+    #[tactic(auto, using(crate::proofs::Sheets::inside, crate::proofs::Sheets::taken, crate::proofs::Sheets::loads, crate::proofs::Sheets::refuses))]
+    pub fn load_formula(&mut self, text: &[u8], factors: u64) -> Result<(), Refusal>
+        ensures { loading_in_full result self.new ≡ formula_loaded_of self.old text.now factors }
+    {
+        let mut sheet = [0u8; 4097];
+        let len = formulas::convert(text, factors, &mut sheet)?;
+        self.load(&sheet[..len])
     }
-}
 
-fn answered(outcome: rules::Outcome) -> Outcome
-    ensures { result ≡ outcome_of outcome }
-{
-    match outcome {
-        rules::Outcome::Rated => Outcome::Accepted,
-        rules::Outcome::Refused(r) => Outcome::Refused(Refusal::Rate(r)),
-    }
-}
-
-// The engine with the codelist c, where loading accepted it.
-fn replaced(engine: Engine, outcome: codelist::Outcome, c: Codelist) -> Loading
-    ensures { result ≡ loaded engine outcome c }
-{
-    match outcome {
-        codelist::Outcome::Accepted => Loading {
-            outcome: Outcome::Accepted,
-            engine: Engine { codelist: c },
-        },
-        codelist::Outcome::Refused(r) => Loading {
-            outcome: Outcome::Refused(Refusal::Load(r)),
-            engine: engine,
-        },
+    // The limits over the ranges, two numbers for each factor, or the refusal. The engine stays as it is.
+    #[tactic(auto, unfolding(crate::specs::Engine::rated_of))]
+    pub fn rate(self, ranges: &[i64]) -> Result<Limits, Refusal>
+        ensures { in_full result ≡ rated_of self ranges.now }
+    {
+        Ok(bounds::rate(self.codelist, ranges)?)
     }
 }

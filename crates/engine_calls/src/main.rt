@@ -4,68 +4,39 @@
 #![tactic(auto)]
 
 use codelist::{Codelist, Entry, Op, Year};
-use engine::{Engine, Outcome};
+use engine::{Engine, Refusal};
 use range::Range;
 use rules::Limits;
 use std::io;
 
-fn number(o: Outcome) -> u64 {
-    match o {
-        Outcome::Accepted => 0,
-        Outcome::Refused(why) => why.number() as u64,
+// The number and place of a refusal, 0 at 0 of none.
+fn number_and_place(refusal: Option<Refusal>) -> (u8, u64) {
+    match refusal {
+        None => (0, 0),
+        Some(why) => (why.number(), why.place()),
     }
-}
-
-fn place(o: Outcome) -> u64 {
-    match o {
-        Outcome::Accepted => 0,
-        Outcome::Refused(why) => why.place(),
-    }
-}
-
-fn same(a: Range, b: Range) -> bool {
-    (a.low == b.low) & (a.high == b.high)
 }
 
 // "A pair beyond the last factor is 0, 0": no sheet here has more than two factors.
 fn rest_is_zero(g: [Range; 8]) -> bool {
-    let c = g[2];
-    let d = g[3];
-    let e = g[4];
-    let f = g[5];
-    let k = g[6];
-    let l = g[7];
-    (c.low
-        | c.high
-        | d.low
-        | d.high
-        | e.low
-        | e.high
-        | f.low
-        | f.high
-        | k.low
-        | k.high
-        | l.low
-        | l.high)
-        == 0
+    g[2..].iter().all(|r| *r == Range::ZERO)
 }
 
 // Limits of which value and slopes are those ranges, both bends are the same, and so are both sets.
 fn limits_are(l: Limits, value: Range, first: Range, second: Range, bend: Range, set: u8) -> bool {
     let g = l.gradient;
-    let a = g[0];
-    let b = g[1];
-    let v = l.value;
-    let s = l.spectrum;
-    let f = l.full;
-    let ranges = same(v, value) & same(a, first) & same(b, second) & same(s, bend) & same(f, bend);
+    let ranges = (l.value == value)
+        & (g[0] == first)
+        & (g[1] == second)
+        & (l.spectrum == bend)
+        & (l.full == bend);
     ranges & rest_is_zero(g) & (l.support == set) & (l.nonlinear == set)
 }
 
-// Whose limits they are. 01's figures: "every other field is 0"; V 10000..90000, G 20000..60000, E 20000..20000 of the square on 10000..30000; of two
+// Whose limits they are, by the number that is printed. 01's figures: "every other field is 0"; V 10000..90000, G 20000..60000, E 20000..20000 of the square on 10000..30000; of two
 // squares on 0..10000, added, V and both slopes 0..20000, E 20000..20000.
 fn whose(l: Limits) -> u64 {
-    let zero = Range { low: 0, high: 0 };
+    let zero = Range::ZERO;
     let two = Range {
         low: 20_000,
         high: 20_000,
@@ -73,20 +44,15 @@ fn whose(l: Limits) -> u64 {
     if limits_are(l, zero, zero, zero, zero, 0) {
         return 0;
     }
-    if limits_are(
-        l,
-        Range {
-            low: 10_000,
-            high: 90_000,
-        },
-        Range {
-            low: 20_000,
-            high: 60_000,
-        },
-        zero,
-        two,
-        1,
-    ) {
+    let value = Range {
+        low: 10_000,
+        high: 90_000,
+    };
+    let slope = Range {
+        low: 20_000,
+        high: 60_000,
+    };
+    if limits_are(l, value, slope, zero, two, 1) {
         return 1;
     }
     let wide = Range {
@@ -99,120 +65,106 @@ fn whose(l: Limits) -> u64 {
     3
 }
 
-// A load, and the engine after it.
-fn load(out: &impl Print, e: Engine, text: &[u8]) -> io::Result<Engine> {
-    let l = e.load(text);
-    let outcome = l.outcome;
-    println!(out; "load: {} at {}", number(outcome), place(outcome))?;
-    Ok(l.engine)
+fn load(out: &impl Print, e: &mut Engine, text: &[u8]) -> io::Result<()> {
+    let (number, place) = number_and_place(e.load(text).err());
+    println!(out; "load: {number} at {place}")
 }
 
 // The same of a formula.
-fn load_formula(out: &impl Print, e: Engine, text: &[u8], factors: u64) -> io::Result<Engine> {
-    let l = e.load_formula(text, factors);
-    let outcome = l.outcome;
-    println!(out; "formula: {} at {}", number(outcome), place(outcome))?;
-    Ok(l.engine)
+fn load_formula(out: &impl Print, e: &mut Engine, text: &[u8], factors: u64) -> io::Result<()> {
+    let (number, place) = number_and_place(e.load_formula(text, factors).err());
+    println!(out; "formula: {number} at {place}")
 }
 
-fn rate(out: &impl Print, e: Engine, ranges: &[i64]) -> io::Result<()> {
-    let r = e.rate(ranges);
-    let outcome = r.outcome;
-    let whose = whose(r.limits);
-    println!(out;
-        "rate: {} at {}, limits {whose}",
-        number(outcome),
-        place(outcome)
-    )
+fn rate(out: &impl Print, e: &Engine, ranges: &[i64]) -> io::Result<()> {
+    let answer = e.rate(ranges);
+    let (number, place) = number_and_place(answer.err());
+    let whose = whose(answer.unwrap_or(Limits::ZERO));
+    println!(out; "rate: {number} at {place}, limits {whose}")
 }
 
-fn rate_one(out: &impl Print, e: Engine, low: i64, high: i64) -> io::Result<()> {
+fn rate_one(out: &impl Print, e: &Engine, low: i64, high: i64) -> io::Result<()> {
     rate(out, e, &[low, high])
 }
 
-fn rate_two(out: &impl Print, e: Engine, low: i64, high: i64) -> io::Result<()> {
+fn rate_two(out: &impl Print, e: &Engine, low: i64, high: i64) -> io::Result<()> {
     rate(out, e, &[0, 10_000, low, high])
 }
 
-fn square(out: &impl Print, e: Engine) -> io::Result<Engine> {
+fn square(out: &impl Print, e: &mut Engine) -> io::Result<()> {
     load(out, e, b"factors\t1\npow\t1\t2\n")
 }
 
 // A load that is to be refused: the engine rates the square as before.
-fn keeps(out: &impl Print, e: Engine, text: &[u8]) -> io::Result<Engine> {
-    let after = load(out, e, text)?;
-    rate_one(out, after, 10_000, 30_000)?;
-    Ok(after)
+fn keeps(out: &impl Print, e: &mut Engine, text: &[u8]) -> io::Result<()> {
+    load(out, e, text)?;
+    rate_one(out, e, 10_000, 30_000)
 }
 
 // Nothing is loaded: 10, before 8 and 9.
-fn fresh(out: &impl Print, e: Engine) -> io::Result<()> {
+fn fresh(out: &impl Print, e: &Engine) -> io::Result<()> {
     rate_one(out, e, 10_000, 30_000)?;
     rate_one(out, e, 1, 0)?;
     rate_two(out, e, 0, 10_000)
 }
 
 // Refusals 1 to 4 and 17.
-fn refused_first(out: &impl Print, e: Engine) -> io::Result<Engine> {
-    let long = [b'\n'; 4097];
-    let e = keeps(out, e, &long)?;
-    let e = keeps(out, e, b"")?;
-    let e = keeps(out, e, b"factors\t9\ninv\t1\n")?;
-    let e = keeps(out, e, b"factors\t1\t2015\ninv\t1\n")?;
+fn refused_first(out: &impl Print, e: &mut Engine) -> io::Result<()> {
+    keeps(out, e, &[b'\n'; 4097])?;
+    keeps(out, e, b"")?;
+    keeps(out, e, b"factors\t9\ninv\t1\n")?;
+    keeps(out, e, b"factors\t1\t2015\ninv\t1\n")?;
     keeps(out, e, b"factors\t2\n")
 }
 
 // Refusals 5 to 7 and 15, and 2 once more, behind lines that would be a codelist by themselves.
-fn refused_later(out: &impl Print, e: Engine) -> io::Result<Engine> {
-    let e = keeps(out, e, b"factors\t1\ninv\t1\ninv\t9\n")?;
-    let e = keeps(out, e, b"factors\t1\ninv\t1\npow\t1\t9\n")?;
-    let e = keeps(out, e, b"factors\t1\ninv\t1\naddc\t1\t2000000001\n")?;
-    let e = keeps(out, e, b"factors\t1\ninv\t1\nmulc\t1\t0\n")?;
+fn refused_later(out: &impl Print, e: &mut Engine) -> io::Result<()> {
+    keeps(out, e, b"factors\t1\ninv\t1\ninv\t9\n")?;
+    keeps(out, e, b"factors\t1\ninv\t1\npow\t1\t9\n")?;
+    keeps(out, e, b"factors\t1\ninv\t1\naddc\t1\t2000000001\n")?;
+    keeps(out, e, b"factors\t1\ninv\t1\nmulc\t1\t0\n")?;
     keeps(out, e, b"factors\t1\ninv\t1\ninv\t1")
 }
 
 // The sum has two factors: the square's range is no longer enough (8). Refused ratings change nothing.
-fn replaced(out: &impl Print, e: Engine) -> io::Result<Engine> {
-    let e = load(out, e, b"factors\t2\npow\t1\t2\npow\t2\t2\nadd\t3\t4\n")?;
+fn replaced(out: &impl Print, e: &mut Engine) -> io::Result<()> {
+    load(out, e, b"factors\t2\npow\t1\t2\npow\t2\t2\nadd\t3\t4\n")?;
     rate_one(out, e, 10_000, 30_000)?;
     rate_two(out, e, 0, 10_000)?;
     rate_two(out, e, 1, 0)?;
     rate_two(out, e, 0, 2_000_000_001)?;
     rate_two(out, e, 0, 2_000_000_000)?;
-    rate_two(out, e, 0, 10_000)?;
-    Ok(e)
+    rate_two(out, e, 0, 10_000)
 }
 
 // 01's figures for 11 and 12; then the square again.
-fn inverse(out: &impl Print, e: Engine) -> io::Result<()> {
-    let e = load(out, e, b"factors\t1\ninv\t1\n")?;
+fn inverse(out: &impl Print, e: &mut Engine) -> io::Result<()> {
+    load(out, e, b"factors\t1\ninv\t1\n")?;
     rate_one(out, e, 0, 10_000)?;
     rate_one(out, e, 1, 1)?;
-    let e = square(out, e)?;
+    square(out, e)?;
     rate_one(out, e, 10_000, 30_000)
 }
 
 // A formula that is to be refused: the engine rates the sum as before.
-fn keeps_sum(out: &impl Print, e: Engine, text: &[u8], factors: u64) -> io::Result<Engine> {
-    let after = load_formula(out, e, text, factors)?;
-    rate_two(out, after, 0, 10_000)?;
-    Ok(after)
+fn keeps_sum(out: &impl Print, e: &mut Engine, text: &[u8], factors: u64) -> io::Result<()> {
+    load_formula(out, e, text, factors)?;
+    rate_two(out, e, 0, 10_000)
 }
 
 // Formulas (02, request 12): the sum of two squares; 19 by a byte, by the end and by the length, 20, and what loading their sheets refuses; then the square.
-fn formulas(out: &impl Print, e: Engine) -> io::Result<()> {
-    let e = keeps_sum(out, e, b"f1^2+f2^2", 2)?;
-    let e = keeps_sum(out, e, b"f1^2+f9", 2)?;
-    let e = keeps_sum(out, e, b"f1^2+", 2)?;
-    let long = [b'f'; 1025];
-    let e = keeps_sum(out, e, &long, 2)?;
-    let e = keeps_sum(out, e, b"2*3*f1", 2)?;
-    let e = keeps_sum(out, e, b"f1^2", 9)?;
-    let e = keeps_sum(out, e, b"f1+f3", 2)?;
-    let e = keeps_sum(out, e, b"f1^9", 2)?;
-    let e = keeps_sum(out, e, b"f1+200000.0001", 2)?;
-    let e = keeps_sum(out, e, b"f1-0*f2", 2)?;
-    let e = load_formula(out, e, b"f1^2", 1)?;
+fn formulas(out: &impl Print, e: &mut Engine) -> io::Result<()> {
+    keeps_sum(out, e, b"f1^2+f2^2", 2)?;
+    keeps_sum(out, e, b"f1^2+f9", 2)?;
+    keeps_sum(out, e, b"f1^2+", 2)?;
+    keeps_sum(out, e, &[b'f'; 1025], 2)?;
+    keeps_sum(out, e, b"2*3*f1", 2)?;
+    keeps_sum(out, e, b"f1^2", 9)?;
+    keeps_sum(out, e, b"f1+f3", 2)?;
+    keeps_sum(out, e, b"f1^9", 2)?;
+    keeps_sum(out, e, b"f1+200000.0001", 2)?;
+    keeps_sum(out, e, b"f1-0*f2", 2)?;
+    load_formula(out, e, b"f1^2", 1)?;
     rate_one(out, e, 10_000, 30_000)
 }
 
@@ -227,22 +179,24 @@ fn written_down(out: &impl Print, c: i64) -> io::Result<()> {
             ops: [Entry { op: Op::MulC(1, c) }; 64],
         },
     };
-    rate_one(out, e, 10_000, 30_000)?;
-    rate_one(out, e, 1, 0)?;
-    rate_two(out, e, 0, 10_000)
+    rate_one(out, &e, 10_000, 30_000)?;
+    rate_one(out, &e, 1, 0)?;
+    rate_two(out, &e, 0, 10_000)
 }
 
 fn main(rt: HostRuntime) -> io::Result<()> {
     let out = &rt;
-    let e = Engine::new();
-    fresh(out, e)?;
-    let e = square(out, e)?;
-    rate_one(out, e, 10_000, 30_000)?;
-    let e = refused_first(out, e)?;
-    let e = refused_later(out, e)?;
-    let e = replaced(out, e)?;
-    inverse(out, e)?;
-    formulas(out, e)?;
+    let mut e = Engine::new();
+    fresh(out, &e)?;
+    square(out, &mut e)?;
+    rate_one(out, &e, 10_000, 30_000)?;
+    refused_first(out, &mut e)?;
+    refused_later(out, &mut e)?;
+    replaced(out, &mut e)?;
+    // both of these begin with the sum
+    let mut sum = e;
+    inverse(out, &mut e)?;
+    formulas(out, &mut sum)?;
     written_down(out, 0)?;
     written_down(out, 1)
 }

@@ -33,7 +33,7 @@ found-cut w start (b ∷ s) (suc n) h =
     go false f g = ap suc (f (omega (arith, g)))
 
 -- ---- no line is seen that was not there
-and_kept : (t : Bool) {u v : Bool} → (u ≡ true → v ≡ true) → (t && u) ≡ true → (t && v) ≡ true
+pub and_kept : (t : Bool) {u v : Bool} → (u ≡ true → v ≡ true) → (t && u) ≡ true → (t && v) ≡ true
 and_kept true f h = f h
 and_kept false f h = h
 

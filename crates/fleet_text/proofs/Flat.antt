@@ -1,12 +1,14 @@
 -- The boats laid out flat: eight numbers each, one after another; and the page of these numbers. Assumes nothing.
-use Prim.Native.Nat.{ℕ, suc, ◌+◌, ◌*◌, ◌/◌, ◌%◌, ◌≤◌, ◌<◌}
+use Prim.Native.Nat.{ℕ, ◌+◌, ◌*◌, ◌/◌, ◌%◌, ◌≤◌, ◌<◌}
 use mathlib.Core.List.{List, [], ◌∷◌, ◌++◌, map-append, append_assoc, append-nil}
-use mathlib.Core.Path.{◌≡◌, refl, sym, ap, ◌∙◌}
+use mathlib.Core.Path.{◌≡◌, refl, sym, ap, ap₂, ◌∙◌}
 use native.Mathlib.Numerals.{add-one}
 use native.Mathlib.Omega.{arith}
-use lib.IntN.{ℤ, pos}
-use lib.ListN.{length, get_or, take, set, replicate, length-set, length-append, length-map}
-use lib.Seq.{take_all, take-suc, take-suc-set, take_at, drop_at, length-take-le}
+use lib.IntN.{ℤ}
+use lib.ListN.{length, get_or, take, length-append}
+use lib.Seq.{take-suc, take_at, drop_at}
+use borrow.Rule.Slice.PartMut.{put_mid}
+use Rattle.std.proofs.lemmas.Slice.{take-put_mid}
 use Rattle.engine.specs.declared.Engine.{Engine}
 use Rattle.boats.specs.declared.Boat.{Boat}
 use Rattle.boats.specs.Boats.{first_records, records, numbers_of}
@@ -43,7 +45,7 @@ records-concat bs e =
 abbrev absent : Boat
 absent = record { numbers = [] }
 
--- ---- the loops: k boats are laid out, and a numbers of the next one
+-- ---- the loop: k boats are laid out
 abbrev firsts : List Boat → ℕ → List (List ℤ)
 firsts bs k = numbers_of (take k bs)
 
@@ -52,62 +54,18 @@ firsts-next bs k h =
     let n : take (k + 1) bs ≡ take k bs ++ (get_or bs k absent ∷ []) = rw (add-one k) (take-suc bs k absent h) in
     ap numbers_of n ∙ map-append (λ (b : Boat). b.numbers) (take k bs) (get_or bs k absent ∷ [])
 
-pub record Laid (bs : List Boat) (xs : List ℤ) (k : ℕ) : Type 0 where
-  pub whole : length xs ≡ 8000
-  pub eights : Eights (firsts bs k)
-  pub same : take (8 * k) xs ≡ concat (firsts bs k)
+-- the next one's numbers ys are put behind them
+module _ (bs : List Boat) (xs ys : List ℤ) (k : ℕ) (h : k < length bs) (p : ys ≡ (get_or bs k absent).numbers) (l : length ys ≡ 8) where
+  pub laid-eights : Eights (firsts bs k) → Eights (firsts bs (k + 1))
+  laid-eights e = rw (firsts-next bs k h) (eights-last (firsts bs k) (get_or bs k absent).numbers e (rw (← p) l))
 
-pub record Laying (bs : List Boat) (eight xs : List ℤ) (k a : ℕ) : Type 0 where
-  pub whole : length xs ≡ 8000
-  pub below : a ≤ 8
-  pub eights : Eights (firsts bs k)
-  pub same : take (8 * k + a) xs ≡ concat (firsts bs k) ++ take a eight
-
-pub laid-start : (bs : List Boat) → Laid bs (replicate 8000 (pos 0)) 0
-laid-start bs = record { whole = refl; eights = tt; same = refl }
-
-pub laying-start : (bs : List Boat) (eight xs : List ℤ) (k : ℕ) → Laid bs xs k → Laying bs eight xs k 0
-laying-start bs eight xs k l =
-    let z : 8 * k + 0 ≡ 8 * k = omega arith in
-    record { whole = l.whole; below = omega arith; eights = l.eights; same = rw z (l.same ∙ sym (append-nil (concat (firsts bs k)))) }
-
-pub laying-next : (bs : List Boat) (eight xs : List ℤ) (k a : ℕ) {x : ℤ} → length eight ≡ 8 → k < 1000 → a < 8 → x ≡ get_or eight a (pos 0)
-    → Laying bs eight xs k a → Laying bs eight (set xs (8 * k + a) x) k (a + 1)
-laying-next bs eight xs k a {x} e f h p l =
-    let n : 8 * k + (a + 1) ≡ suc (8 * k + a) = omega arith in
-    let more : take (a + 1) eight ≡ take a eight ++ (x ∷ []) = rw (add-one a, p) (take-suc eight a (pos 0) (omega (arith, e, h))) in
-    record {
-      whole = length-set xs (8 * k + a) x ∙ l.whole;
-      below = omega (arith, h);
-      eights = l.eights;
-      same =
-          rw n (take-suc-set xs (8 * k + a) x (omega (arith, l.whole, f, h)))
-          ∙ ap (λ (m : List ℤ). m ++ (x ∷ [])) l.same
-          ∙ append_assoc (concat (firsts bs k)) (take a eight) (x ∷ [])
-          ∙ ap (λ (m : List ℤ). concat (firsts bs k) ++ m) (sym more);
-    }
-
-pub laying-end : (bs : List Boat) (eight xs : List ℤ) (k a : ℕ) → length eight ≡ 8 → k < length bs → 8 ≤ a → eight ≡ (get_or bs k absent).numbers
-    → Laying bs eight xs k a → Laid bs xs (k + 1)
-laying-end bs eight xs k a e f h p l =
-    let n : 8 * (k + 1) ≡ 8 * k + a = omega (arith, l.below, h) in
-    let all : take a eight ≡ eight = take_all a eight (omega (arith, e, h)) in
-    record {
-      whole = l.whole;
-      eights = rw (firsts-next bs k f) (eights-last (firsts bs k) (get_or bs k absent).numbers l.eights (rw (← p) e));
-      same =
-          rw n l.same ∙ ap (λ (m : List ℤ). concat (firsts bs k) ++ m) (all ∙ p)
-          ∙ sym (ap concat (firsts-next bs k f) ∙ concat-last (firsts bs k) (get_or bs k absent).numbers);
-    }
-
-pub laid_end : (bs : List Boat) (xs : List ℤ) (k count : ℕ) → count ≤ length bs → count ≤ k → k ≤ count → Laid bs xs k → Flat (firsts bs count) xs
-laid_end bs xs k count f h g l =
-    let same : k ≡ count = omega (arith, h, g) in
-    let n : length (firsts bs count) ≡ count = length-map (take count bs) (λ (b : Boat). b.numbers) ∙ length-take-le count bs f in
-    record { eights = rw (← same) l.eights; same = rw n (rw same at l.same) }
+  pub laid-next : (m : ℕ) → 8 * k ≤ length xs → take (8 * k) xs ≡ concat (firsts bs k) → take (8 * (k + 1)) (put_mid (8 * k) m xs ys) ≡ concat (firsts bs (k + 1))
+  laid-next m w e =
+      take-put_mid (8 * k) m xs ys (8 * (k + 1)) (omega (arith, l)) w ∙ ap₂ (λ (a b : List ℤ). a ++ b) e p
+      ∙ sym (ap concat (firsts-next bs k h) ∙ concat-last (firsts bs k) (get_or bs k absent).numbers)
 
 -- ---- the page of the numbers
-pub flat-page : (e : Engine) (bs : List (List ℤ)) (xs : List ℤ) (n : ℕ) → n ≡ 8 * length bs → Flat bs xs → fleet_of_numbers e (take n xs) ≡ fleet_of e bs
-flat-page e bs xs n p f =
+pub flat_page : (e : Engine) (bs : List (List ℤ)) (xs : List ℤ) (n : ℕ) → n ≡ 8 * length bs → Flat bs xs → fleet_of_numbers e (take n xs) ≡ fleet_of e bs
+flat_page e bs xs n p f =
     let m : length (concat bs) % 8 ≡ 0 = omega (arith, concat-length bs f.eights) in
     ap (fleet_of_numbers e) (rw p f.same) ∙ fleet-figures.same-list e (concat bs) m ∙ ap (fleet_of e) (records-concat bs f.eights)

@@ -17,8 +17,8 @@ use Rattle.codelist.specs.Read.{Read, good, bad, field}
 use Rattle.codelist.proofs.Lengths.{decimal-length}
 use Rattle.codelist.proofs.Ratable.{well-formed-ratable}
 use Rattle.engine.specs.declared.Engine.{Engine}
-use Rattle.engine.specs.declared.Outcome.{Outcome}
-use Rattle.engine.specs.declared.Outcome.TheVariants.{Accepted, Refused}
+use Rattle.engine.specs.InFull.{Outcome}
+use Rattle.engine.specs.InFull.{Accepted, Refused}
 use Rattle.engine.specs.declared.Refusal.{Refusal}
 use Rattle.engine.specs.Engine.{empty_engine, loaded_of}
 use Rattle.engine.proofs.Demands.{demands}
@@ -29,7 +29,7 @@ use Rattle.text.specs.Output as text
 use Rattle.text.specs.Answer.{written, unless_refused}
 use Rattle.text.proofs.Lengths.{unless-length, written-whole}
 use Rattle.text.proofs.Splitting.{sheet_length-≤}
-use Rattle.boats.specs.declared.Outcome as boats
+use Rattle.boats.specs.InFull as boats
 use Rattle.boats.specs.declared.Refusal.TheVariants as boats-refusal
 use Rattle.boats.specs.declared.Report.{Report}
 use Rattle.boats.specs.Fleet as Fleet
@@ -135,8 +135,8 @@ report-length k r =
 
 counted-length : (k : ℕ) (o : boats.Outcome) (r : Report) → length (outcome_text k o r) ≤ 1024
 unfolding refusal_text
-counted-length k boats.TheVariants.Reported r = report-length k r
-counted-length k (boats.TheVariants.Refused why) r = omega (arith, refused-length (Fleet.number_of why) (Fleet.place_of why))
+counted-length k boats.Reported r = report-length k r
+counted-length k (boats.Refused why) r = omega (arith, refused-length (Fleet.number_of why) (Fleet.place_of why))
 
 page-length : (e : Engine) (bs : Option (List (List ℤ))) → length (page_text e bs) ≤ 1024
 unfolding refusal_text

@@ -2,7 +2,7 @@
 use Rattle.std.specs.Prelude.{List, ℕ, ℤ, length}
 use Rattle.std.proofs.Math.Option.{Option, none, some}
 use Rattle.engine.specs.declared.Engine.{Engine}
-use Rattle.engine.specs.declared.Loading.{Loading}
+use Rattle.engine.specs.InFull.{Loading}
 use Rattle.engine.specs.Engine.{empty_engine, loaded_of}
 use Rattle.text.specs.Answer.{unless_refused}
 use Rattle.boats.specs.declared.Refusal.TheVariants.{Boats}

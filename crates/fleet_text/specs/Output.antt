@@ -1,9 +1,9 @@
 -- What the program `fleet` prints. A tab is byte 9; every line ends with byte 10.
 use Rattle.std.specs.Prelude.{List, [], ◌∷◌, ◌++◌, ℕ}
 use Rattle.writer.specs.Texts.{line_of_one, line_of_whole, refused_text}
-use Rattle.boats.specs.declared.Counted.{Counted}
-use Rattle.boats.specs.declared.Outcome.{Outcome}
-use Rattle.boats.specs.declared.Outcome.TheVariants.{Reported, Refused}
+use Rattle.boats.specs.InFull.{Counted}
+use Rattle.boats.specs.InFull.{Outcome}
+use Rattle.boats.specs.InFull.{Reported, Refused}
 use Rattle.boats.specs.declared.Refusal.{Refusal}
 use Rattle.boats.specs.declared.Report.{Report}
 use Rattle.boats.specs.Fleet.{number_of, place_of}

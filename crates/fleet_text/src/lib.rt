@@ -1,16 +1,16 @@
 // The text side of the program `fleet` (02, request 3): where the sheet ends, the boat lines, and what is printed.
 #![tactic(auto)]
 
-ghost use Rattle.std.specs.Prelude.{◌≡◌, true};
-ghost use Rattle.writer.specs.Lent.{lent, put_text};
-ghost use Rattle.text.specs.Input.{sheet_length};
+ghost use Rattle.std.specs.Prelude.{◌≡◌};
+ghost use Rattle.writer.specs.Lent.{put_text};
+ghost use Rattle.text.specs.InFull.{in_full};
 ghost use Rattle.text.specs.Answer.{written};
-ghost use Rattle.fleet_text.specs.Input.{boats, boats_in};
-ghost use Rattle.fleet_text.specs.Output.{count_lines, sum_lines, report_text, refusal_text, counted_text};
-ghost use Rattle.fleet_text.specs.Answer.{page_text, answer_of};
-ghost use Rattle.fleet_text.specs.Views.{Within, records_of};
+ghost use Rattle.fleet_text.specs.Output.{report_text};
+ghost use Rattle.fleet_text.specs.Answer.{answer_of};
+ghost use Rattle.fleet_text.specs.Views.{boats_read, boats_from, refused_text, told};
+ghost use Rattle.fleet_text.specs.declared.Refusal.TheVariants.{Load, Page};
 
-use boats::{Counted, Outcome, Refusal, Report};
+use boats::Report;
 use engine::Engine;
 use lines::Boats;
 use text::Text;
@@ -21,125 +21,100 @@ mod lines; // lines.rt: the boat lines
 // The most bytes of input.
 const MOST_INPUT: usize = 102_400;
 
-// The form in which the boats are handed over.
+// The form in which the boats are handed over. An enum: a function in its place would have to come with a promise that it makes the page.
 #[derive(Clone, Copy)]
 pub enum Form {
     Numbers,
     Structs,
 }
 
-// The lines of the counts.
-fn count_lines(bytes: &mut [u8], at: usize, count: usize, r: Report) -> usize
-    ensures { lent bytes.new result ≡ put_text (lent bytes.old at) (count_lines count r) }
-{
-    let mut to = writer::line_of_one(bytes, at, b"boats\t", count as u64);
-    to = writer::line_of_one(bytes, to, b"accepted\t", r.accepted);
-    to = writer::line_of_one(bytes, to, b"range\t", r.range);
-    to = writer::line_of_one(bytes, to, b"divisor\t", r.divisor);
-    writer::line_of_one(bytes, to, b"limit\t", r.limit)
+// Why there is no page.
+#[derive(Clone, Copy)]
+enum Refusal {
+    // of the sheet
+    Load(engine::Refusal),
+    // of the boats
+    Page(boats::Refusal),
 }
 
-// The lines of the sums and of the greatest high end.
-fn sum_lines(bytes: &mut [u8], at: usize, r: Report) -> usize
-    ensures { lent bytes.new result ≡ put_text (lent bytes.old at) (sum_lines r) }
+impl From<engine::Refusal> for Refusal {
+    ghost from_gives = { λ why r. r ≡ Load why };
+
+    fn from(why: engine::Refusal) -> Refusal {
+        Refusal::Load(why)
+    }
+}
+
+impl From<boats::Refusal> for Refusal {
+    ghost from_gives = { λ why r. r ≡ Page why };
+
+    fn from(why: boats::Refusal) -> Refusal {
+        Refusal::Page(why)
+    }
+}
+
+// The boats of what follows the sheet: none where that is no line `boats` and boat lines.
+fn boats_in(rest: &[u8]) -> Option<Boats>
+    ensures { boats_read result ≡ boats_from rest.now }
 {
-    let mut to = writer::line_of_whole(bytes, at, b"low\t", r.low);
-    to = writer::line_of_whole(bytes, to, b"high\t", r.high);
-    writer::line_of_one(bytes, to, b"greatest\t", r.greatest)
+    lines::boat_lines(rest.strip_prefix(b"boats\n")?)
+}
+
+// How many boats the text has, and their page, made as often as `times` says.
+fn page(input: &[u8], form: Form, times: u64) -> Result<(usize, Report), Refusal>
+    ensures { told result ≡ answer_of input.now }
+{
+    let (sheet, rest) = input.split_at(text::sheet_end(input, b"boats"));
+    let mut engine = Engine::new();
+    engine.load(sheet)?;
+    if MOST_INPUT < input.len() {
+        return Err(Refusal::Page(boats::Refusal::Boats));
+    }
+    let list = boats_in(rest).ok_or(boats::Refusal::Boats)?;
+    let boats = list.as_slice();
+    let report = forms::page_of(engine, boats, form, times)?;
+    Ok((boats.len(), report))
 }
 
 // The text of a report of so many boats.
-fn report(bytes: &mut [u8], at: usize, count: usize, r: Report) -> usize
-    ensures { lent bytes.new result ≡ put_text (lent bytes.old at) (report_text count r) }
+fn report(out: &mut Text, count: usize, r: Report)
+    ensures { out.new ≡ put_text out.old (report_text count r) }
 {
-    let counted = count_lines(bytes, at, count, r);
-    sum_lines(bytes, counted, r)
+    out.line_of_one(b"boats\t", count as u64);
+    out.line_of_one(b"accepted\t", r.accepted);
+    out.line_of_one(b"range\t", r.range);
+    out.line_of_one(b"divisor\t", r.divisor);
+    out.line_of_one(b"limit\t", r.limit);
+    out.line_of_whole(b"low\t", r.low);
+    out.line_of_whole(b"high\t", r.high);
+    out.line_of_one(b"greatest\t", r.greatest);
 }
 
 // The text of a refusal.
-fn refusal(bytes: &mut [u8], at: usize, why: Refusal) -> usize
-    ensures { lent bytes.new result ≡ put_text (lent bytes.old at) (refusal_text why) }
+fn refused(out: &mut Text, why: Refusal)
+    ensures { out.new ≡ put_text out.old (refused_text why) }
 {
-    let number = why.number() as u64;
-    let place = why.place();
-    writer::refusal(bytes, at, number, place)
-}
-
-// The text of a page of so many boats.
-fn counted(bytes: &mut [u8], at: usize, count: usize, page: Counted) -> usize
-    ensures { lent bytes.new result ≡ put_text (lent bytes.old at) (counted_text count page) }
-{
-    let outcome = page.outcome;
-    let figures = page.report;
-    match outcome {
-        Outcome::Reported => report(bytes, at, count, figures),
-        Outcome::Refused(why) => refusal(bytes, at, why),
-    }
-}
-
-// The boats of the text, whose sheet ends at `end`.
-fn boats_in(input: &[u8], end: usize) -> Boats
-    requires { end ≡ sheet_length boats true input.now }
-    ensures result_value { records_of result ≡ boats_in input.now }
-    ensures within { Within result }
-{
-    if MOST_INPUT < input.len() {
-        return lines::none();
-    }
-    if end < input.len() {
-        lines::boat_lines(input, end + 6)
-    } else {
-        lines::none()
-    }
-}
-
-// The text of the boats' page, made as often as `times` says.
-fn page(bytes: &mut [u8], at: usize, engine: Engine, list: Boats, form: Form, times: u64) -> usize
-    requires { Within list }
-    ensures { lent bytes.new result ≡ put_text (lent bytes.old at) (page_text engine (records_of list)) }
-{
-    if !list.good {
-        return refusal(bytes, at, Refusal::Boats);
-    }
-    let count = list.count;
-    let boats = list.boats;
-    counted(
-        bytes,
-        at,
-        count,
-        forms::page_of(engine, boats, count, form, times),
-    )
-}
-
-// The whole output.
-fn output(bytes: &mut [u8], at: usize, input: &[u8], form: Form, times: u64) -> usize
-    ensures { lent bytes.new result ≡ put_text (lent bytes.old at) (answer_of input.now) }
-{
-    let end = text::sheet_end(input, b"boats");
-    let loading = Engine::new().load(&input[..end]);
-    let outcome = loading.outcome;
-    let engine = loading.engine;
-    match outcome {
-        engine::Outcome::Accepted => page(bytes, at, engine, boats_in(input, end), form, times),
-        engine::Outcome::Refused(why) => text::refusal(bytes, at, why),
+    match why {
+        Refusal::Load(why) => text::refusal(out, why),
+        Refusal::Page(why) => out.refusal(u64::from(why.number()), why.place()),
     }
 }
 
 // What the program prints for its input.
 pub fn answer(input: &[u8]) -> Text
-    ensures { result ≡ written (answer_of input.now) }
+    ensures { in_full result ≡ written (answer_of input.now) }
 {
     answer_after(input, Form::Structs, 1)
 }
 
 // The same by either form of the list, after so many pages: for measuring them.
 pub fn answer_after(input: &[u8], form: Form, times: u64) -> Text
-    ensures { result ≡ written (answer_of input.now) }
+    ensures { in_full result ≡ written (answer_of input.now) }
 {
-    let mut bytes = [0u8; 1024];
-    let len = output(&mut bytes, 0, input, form, times);
-    Text {
-        bytes: bytes,
-        len: len,
+    let mut out = Text::new();
+    match page(input, form, times) {
+        Ok((count, figures)) => report(&mut out, count, figures),
+        Err(why) => refused(&mut out, why),
     }
+    out
 }

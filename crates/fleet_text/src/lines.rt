@@ -1,10 +1,10 @@
 // The boat lines: eight numerals each, parted by tabs.
-ghost use Rattle.std.specs.Prelude.{◌≡◌, [], ◌-◌, ◌<◌, drop};
-ghost use Rattle.fleet_text.specs.Input.{byte_after, numbers, boat_lines};
-ghost use Rattle.fleet_text.specs.Views.{Within, no_boats, line_of, records_of};
+ghost use Rattle.std.specs.Prelude.{◌≡◌, [], ◌++◌, ◌∷◌, ◌<◌, ◌≤◌, length, MatchOption};
+ghost use Rattle.fleet_text.specs.Input.{numbers, boat_lines};
+ghost use Rattle.fleet_text.specs.Views.{numbers_read, boats_read};
 
 use boats::Boat;
-use codelist::NumeralRead;
+use std::marker::Model;
 
 const TAB: u8 = 9;
 
@@ -13,97 +13,82 @@ const LINE_END: u8 = 10;
 // The most boats of a page.
 const MOST_BOATS: usize = 1000;
 
-const NO_BOAT: Boat = Boat { numbers: [0i64; 8] };
-
-// What stands at a place of the text: a boat with the place after its line; `good` is false where the line has another form.
-#[derive(Clone, Copy)]
-struct BoatLine {
-    good: bool,
-    boat: Boat,
-    next: usize,
-}
-
-// The boats of the lines, the first `count`; `good` is false where a line has another form, or where there are more than 1,000.
-#[derive(Clone, Copy)]
+// The boats of a page. An array with a count: no library here allocates.
+#[derive(Drop)]
 pub(crate) struct Boats {
-    pub good: bool,
-    pub count: usize,
-    pub boats: [Boat; 1000],
+    boats: [Boat; 1000],
+    count: usize,
 }
 
-// The byte after the numeral at a, from 0, of the eight.
-fn byte_after(a: usize) -> u8
-    requires { a < 8 }
-    ensures { result ≡ byte_after (7 - a) }
-{
-    if a < 7 { TAB } else { LINE_END }
+// Clauses see the list of the boats.
+impl Model for Boats {
+    ghost use Rattle.std.specs.Prelude.{List, ◌≤◌, take};
+    ghost use Rattle.boats.specs.declared.Boat.{Boat};
+
+    ghost Value = { List Boat };
+
+    ghost view = { λ b. take b.count b.boats };
+
+    ghost invariant = { λ b. b.count ≤ 1000 };
 }
 
-// A boat's line.
-fn boat_line(s: &[u8], from: usize) -> BoatLine
-    ensures { line_of s.now result ≡ numbers 8 [] (drop from s.now) }
-{
-    let mut numbers = [0i64; 8];
-    let mut at = from;
-    let mut a: usize = 0;
-    while a < 8 {
-        match codelist::field_at(s, at, byte_after(a)) {
-            NumeralRead::Good(w, t) => {
-                numbers[a] = w.value();
-                at = t;
-                a += 1;
-            }
-            NumeralRead::Bad => {
-                return BoatLine {
-                    good: false,
-                    boat: NO_BOAT,
-                    next: at,
-                };
-            }
+impl Boats {
+    fn new() -> Self
+        ensures { result ≡ [] }
+    {
+        Boats {
+            boats: [Boat { numbers: [0; 8] }; 1000],
+            count: 0,
         }
     }
-    BoatLine {
-        good: true,
-        boat: Boat { numbers: numbers },
-        next: at,
+
+    // One boat more, or none where there are as many as a page may have.
+    // As of the box lines of `text`: a struct over an array of a type parameter is not to be had.
+    fn push(&mut self, boat: Boat) -> Option<()>
+        ensures { MatchOption result (length self.old ≡ 1000) (λ _. (length self.old < 1000) × (self.new ≡ self.old ++ boat ∷ [])) }
+    {
+        if self.count == MOST_BOATS {
+            return None;
+        }
+        self.boats[self.count] = boat;
+        self.count += 1;
+        Some(())
+    }
+
+    pub(crate) fn as_slice(&self) -> &[Boat]
+        ensures same { result.now ≡ self.now }
+        ensures few { length result.now ≤ 1000 }
+    {
+        &self.boats[..self.count]
     }
 }
 
-// No boats to be had.
-pub(crate) fn none() -> Boats
-    ensures { result ≡ no_boats }
+// A boat's line, and what follows it.
+fn boat_line(s: &[u8]) -> Option<(Boat, &[u8])>
+    ensures { numbers_read result ≡ numbers 8 [] s.now }
 {
-    Boats {
-        good: false,
-        count: 0,
-        boats: [NO_BOAT; 1000],
+    let mut numbers = [0; 8];
+    let mut rest = s;
+    // By the numeral's place, which says what byte ends it.
+    for a in 0..8 {
+        let end = if a < 7 { TAB } else { LINE_END };
+        let (w, after) = codelist::field(rest, end)?;
+        numbers[a] = w.value();
+        rest = after;
     }
+    Some((Boat { numbers }, rest))
 }
 
-// The boat lines from a place on.
-pub(crate) fn boat_lines(s: &[u8], from: usize) -> Boats
-    ensures result_value { records_of result ≡ boat_lines 1000 [] (drop from s.now) }
-    ensures within { Within result }
+// The boats of the lines: none where a line has another form, or where there are more than 1,000.
+pub(crate) fn boat_lines(s: &[u8]) -> Option<Boats>
+    ensures { boats_read result ≡ boat_lines 1000 [] s.now }
 {
-    let mut boats = [NO_BOAT; 1000];
-    let mut count: usize = 0;
-    let mut at = from;
-    while at < s.len() {
-        if MOST_BOATS <= count {
-            return none();
-        }
-        let line = boat_line(s, at);
-        if !line.good {
-            return none();
-        }
-        let boat = line.boat;
-        boats[count] = boat;
-        count += 1;
-        at = line.next;
+    let mut boats = Boats::new();
+    let mut rest = s;
+    while !rest.is_empty() {
+        let (boat, after) = boat_line(rest)?;
+        boats.push(boat)?;
+        rest = after;
     }
-    Boats {
-        good: true,
-        count: count,
-        boats: boats,
-    }
+    Some(boats)
 }

@@ -7,8 +7,6 @@ use std::io;
 fn main(rt: HostRuntime) -> io::Result<()> {
     let mut input = [0u8; 2048];
     let n = streams::read_full(&mut rt.stdin(), &mut input)?;
-    let o = formulas::answer(&input[..n]);
-    let bytes = o.bytes;
-    let len = o.len;
-    rt.write_all(&bytes[..len])
+    let out = formulas::answer(&input[..n]);
+    rt.write_all(out.as_slice())
 }

@@ -1,91 +1,67 @@
--- What the program prints: the first line, what follows it, and the sheet or the refusal in the bytes that hold it.
-use Prim.Native.Nat.{ℕ, ◌+◌, ◌-◌, ◌≤◌, ◌<◌}
-use mathlib.Core.Bool.{true, false, cond, true≢false, false≢true}
-use mathlib.Core.List.{List}
+-- What the program prints: the first line, and the sheet or the refusal in the bytes that hold it.
+use Prim.Native.Nat.{ℕ, ◌≤◌, ◌<◌}
+use mathlib.Core.Bool.{true, false, cond, ◌&&◌}
+use mathlib.Core.List.{List, [], ◌∷◌}
 use mathlib.Core.Path.{◌≡◌, refl, sym, ap, ◌∙◌}
 use native.Mathlib.Decide.{dec_lt}
 use native.Mathlib.Omega.{arith}
-use lib.Dec.{eqb, leb}
-use lib.ListN.{length, take, drop, get_or, length-drop, drop_of_length-le}
-use lib.Seq.{take_all, get_or-drop, drop-append_seam}
-use borrow.Author.Tests.{lt-leb}
-use Rattle.codelist.specs.declared.Loaded.{Loaded}
-use Rattle.codelist.specs.declared.Numeral.{Numeral}
-use Rattle.codelist.specs.declared.NumeralRead.TheVariants as numeral-read
-use Rattle.codelist.specs.declared.Outcome as loading
+use lib.Dec.{eqb}
+use lib.ListN.{length, take, drop}
+use lib.Pointwise.{pointwise}
+use lib.Seq.{drop-append_seam}
+use borrow.Author.Tests.{lt-leb, ne_eqb}
+use Rattle.codelist.specs.InFull as loading
+use Rattle.codelist.specs.declared.Codelist.{Codelist}
+use Rattle.codelist.specs.InFull.{Loaded}
 use Rattle.codelist.specs.declared.Refusal.{Refusal}
-use Rattle.codelist.specs.Load.{load_of}
-use Rattle.codelist.specs.Read.{Read, good, bad, is_good, begins_with, next, literal, field, field_from}
+use Rattle.codelist.specs.Load.{load_of, accepted}
+use Rattle.codelist.specs.Load as codelist
+use Rattle.codelist.specs.Read.{Read, good, bad, is_good, peek, rest, next, literal, field}
 use Rattle.codelist.specs.Text.{factors→}
 use Rattle.codelist.proofs.LineTexts.{literal-sound}
-use Rattle.writer.specs.Lent.{lent}
+use Rattle.std.specs.declared.result.Result.TheVariants.{Ok}
+use Rattle.writer.specs.Lent.{Lent}
 use Rattle.writer.specs.Texts.{refused_text}
-use Rattle.formulas.specs.Load.{given, first_bytes, sheet_for}
-use Rattle.formulas.specs.Answer.{count_line, sheet_printed, printed, is_ended, text_in, after_first, in_bytes}
-use Rattle.formulas.proofs.Sheets.{Front, front-loads}
+use Rattle.formulas.specs.Answer.{count_line, sheet_printed, printed, in_bytes}
+use Rattle.formulas.specs.Load.{sheet_for}
+use Rattle.formulas.specs.Views.{Drafts}
+use Rattle.formulas.proofs.Sheets.{drafted-sheet, front, cut-loads}
 
 -- ════ the first line ════
+
+abbrev Bytes : List ℕ → Type 0
+Bytes [] = Unit
+Bytes (b ∷ w) = (b < 256) × Bytes w
+
+-- whether a text begins with a word, as a literal is read and as slices are compared
+begins : (w s : List ℕ) → Bytes w → is_good (literal w s) ≡ pointwise eqb (take (length w) s) w
+unfolding literal peek rest
+begins [] s h = refl
+begins (c ∷ w) [] h = rw (ne_eqb 256 c (λ e. omega arith)) refl
+begins (c ∷ w) (b ∷ s) h = elim (eqb b c) as (λ t. is_good (cond t (literal w s) bad) ≡ (t && pointwise eqb (take (length w) s) w)) [ true ↦ begins w s h.1 | false ↦ refl ]
 
 module _ (s : List ℕ) where
   literal-then : (r : Read Unit) → literal factors→ s ≡ r → is_good r ≡ true → next r (λ _ t. field 10 t) ≡ field 10 (drop 8 s)
   literal-then (good x t) e h =
       ap (field 10) (sym (ap (drop 8) (literal-sound factors→ s x t refl e) ∙ drop-append_seam factors→ t))
-  literal-then bad e h = absurd (false≢true h)
+  literal-then bad e h = absurd (let z : true ≡ false = sym h in let y : ◌≡◌ {A = ℕ} 0 1 = cc in omega arith)
 
-  pub word-then : begins_with factors→ s ≡ true → count_line s ≡ field 10 (drop 8 s)
-  unfolding count_line begins_with
-  word-then h = literal-then (literal factors→ s) refl h
+  pub word-then : pointwise eqb (take 8 s) factors→ ≡ true → count_line s ≡ field 10 (drop 8 s)
+  unfolding count_line
+  word-then h = literal-then (literal factors→ s) refl (begins factors→ s (omega arith) ∙ h)
 
-  pub no_word : begins_with factors→ s ≡ false → count_line s ≡ bad
-  unfolding count_line begins_with
-  no_word h = go (literal factors→ s) h
+  pub no_word : pointwise eqb (take 8 s) factors→ ≡ false → bad ≡ count_line s
+  unfolding count_line
+  no_word h = go (literal factors→ s) (begins factors→ s (omega arith) ∙ h)
     where
-      go : (r : Read Unit) → is_good r ≡ false → next r (λ _ t. field 10 t) ≡ bad
-      go (good x t) g = absurd (true≢false g)
+      go : (r : Read Unit) → is_good r ≡ false → bad ≡ next r (λ _ t. field 10 t)
+      go (good x t) g = absurd (let y : ◌≡◌ {A = ℕ} 0 1 = cc in omega arith)
       go bad g = refl
-
--- the place after a numeral is in the text
-pub field-inside : (e : ℕ) (s : List ℕ) (at : ℕ) (w : Numeral) (t : ℕ) → field_from e s at ≡ numeral-read.Good w t → t ≤ length s
-unfolding field_from
-field-inside e s at w t h = go (field e (drop at s)) refl
-  where
-    go : (r : Read Numeral) → field e (drop at s) ≡ r → t ≤ length s
-    go (good v u) p = let q : length s - length u ≡ t = cc (rw p at h) in omega (arith, q)
-    go bad p = absurd (let z : ◌≡◌ {A = ℕ} 0 1 = cc (rw p at h) in omega arith)
-
--- ════ what follows it ════
-
-module _ (s : List ℕ) (from : ℕ) where
-  pub past_end : length s ≤ from → is_ended (drop from s) ≡ false
-  past_end h = rw (drop_of_length-le s h)
-
-  pub ended-inside : is_ended (drop from s) ≡ true → from < length s
-  ended-inside e = go (dec_lt from (length s))
-    where
-      go : Dec (from < length s) → from < length s
-      go (yes h) = h
-      go (no h) = absurd (true≢false (sym e ∙ past_end (omega arith)))
-
-  module _ (h : from < length s) where
-    pub last_byte : eqb (get_or s (length s - 1) 0) 10 ≡ is_ended (drop from s)
-    last_byte =
-        let i : from + (length (drop from s) - 1) ≡ length s - 1 = omega (arith, length-drop from s) in
-        ap (λ (b : ℕ). eqb b 10) (sym (get_or-drop from s (length (drop from s) - 1) 0 ∙ ap (λ (j : ℕ). get_or s j 0) i))
-
-    text-part : take (length s - 1 - from) (drop from s) ≡ text_in (drop from s)
-    text-part = let n : length s - 1 - from ≡ length (drop from s) - 1 = omega (arith, length-drop from s) in rw n
-
-  pub after-ended : (k : ℕ) → is_ended (drop from s) ≡ true → printed (sheet_for (take (length s - 1 - from) (drop from s)) k) ≡ after_first k (drop from s)
-  after-ended k e = rw (text-part (ended-inside e), e)
-
-  pub after-unended : (k : ℕ) → is_ended (drop from s) ≡ false
-      → cond (leb (length s - from) 1024) (refused_text 2 2) (refused_text 19 1025) ≡ after_first k (drop from s)
-  after-unended k e = rw (e, length-drop from s)
 
 -- ════ the sheet ════
 
--- one that is accepted is not too long, and stands in the bytes whole
-pub accepted-short : (x : List ℕ) → (load_of x).outcome ≡ loading.TheVariants.Accepted → length x ≤ 4096
+-- one that is accepted is not too long
+pub accepted-short : (x : List ℕ) → (load_of x).outcome ≡ loading.Accepted → length x ≤ 4096
 unfolding load_of
 accepted-short x e = go (dec_lt 4096 (length x))
   where
@@ -94,17 +70,16 @@ accepted-short x e = go (dec_lt 4096 (length x))
         absurd (let z : ◌≡◌ {A = ℕ} 0 1 = cc (simp (lt-leb (length x) 4096 h) at e) in omega arith)
     go (no h) = omega arith
 
-module _ (s : List ℕ) (k : ℕ) (x : List ℕ) (g : sheet_for s k ≡ given x) (after : List ℕ) (len : ℕ) (f : Front after len x) (l : Loaded)
-    (e : l ≡ load_of (take len after)) where
-  same_outcome : l.outcome ≡ (load_of x).outcome
-  same_outcome = ap (λ (m : Loaded). m.outcome) (e ∙ front-loads after len x f)
+module _ (s : List ℕ) (k : ℕ) (d : Lent) (h : Drafts (sheet_for s k) (Ok d)) {bytes : List ℕ} (e : bytes ≡ take d.at d.bytes) where
+  -- what is printed of a sheet, by what loading its bytes gives
+  prints : (l : Loaded) → l ≡ load_of bytes → (x : List ℕ) × (d ≡ in_bytes x) × (printed (sheet_for s k) ≡ sheet_printed l.outcome x)
+  prints l q =
+      let x = drafted-sheet (sheet_for s k) d h in
+      (x.0, x.2, ap printed x.1 ∙ ap (λ (m : Loaded). sheet_printed m.outcome x.0) (sym (q ∙ ap load_of (e ∙ front d x.0 x.2) ∙ cut-loads x.0)))
 
-  prints : (o : loading.Outcome) → l.outcome ≡ o → sheet_printed o x ≡ printed (sheet_for s k)
-  prints o q = ap (λ (p : loading.Outcome). sheet_printed p x) (sym q ∙ same_outcome) ∙ ap printed (sym g)
+  pub prints-sheet : {c : Codelist} → accepted c ≡ load_of bytes → d ≡ in_bytes (printed (sheet_for s k))
+  prints-sheet {c} q = let p = prints (accepted c) q in p.1 ∙ ap in_bytes (sym p.2)
 
-  pub prints-sheet : l.outcome ≡ loading.TheVariants.Accepted → lent after len ≡ in_bytes (first_bytes x) → lent after len ≡ in_bytes (printed (sheet_for s k))
-  prints-sheet q w =
-      w ∙ ap in_bytes (take_all 4097 x (omega (arith, accepted-short x (sym same_outcome ∙ q))) ∙ prints loading.TheVariants.Accepted q)
-
-  pub prints-refusal : (r : Refusal) → l.outcome ≡ loading.TheVariants.Refused r → sheet_printed (loading.TheVariants.Refused r) x ≡ printed (sheet_for s k)
-  prints-refusal r q = prints (loading.TheVariants.Refused r) q
+  pub prints-refusal : (r : Refusal) → codelist.refused r ≡ load_of bytes
+      → in_bytes (refused_text (codelist.number_of r) (codelist.place_of r)) ≡ in_bytes (printed (sheet_for s k))
+  prints-refusal r q = ap in_bytes (sym (prints (codelist.refused r) q).2)

@@ -7,7 +7,7 @@ use lib.Dec.{eqb, leb}
 use lib.ListN.{length}
 use lib.Seq.{take-append_seam}
 use Rattle.codelist.specs.declared.Entry.{Entry}
-use Rattle.codelist.specs.declared.Loaded.{Loaded}
+use Rattle.codelist.specs.InFull.{Loaded}
 use Rattle.codelist.specs.declared.Refusal.{Refusal}
 use Rattle.codelist.specs.declared.Refusal.TheVariants.{TooLong, FactorCount, TooManyLines, NoOperation, Reference, Exponent, Constant}
 use Rattle.codelist.specs.declared.Refusal.TheVariants.{ZeroMultiplier}

@@ -9,9 +9,9 @@ use lib.Dec.{lit<, leb}
 use lib.ListN.{length, take, drop, replicate, length-append, take-append-drop}
 use lib.Seq.{take_all, length-take-le, take-append_seam, take-append-add}
 use borrow.Author.Tests.{le-leb, lt-leb}
-use Rattle.codelist.specs.declared.Loaded.{Loaded}
+use Rattle.codelist.specs.InFull.{Loaded}
 use Rattle.codelist.specs.declared.Numeral.{Numeral}
-use Rattle.codelist.specs.declared.Outcome as loading
+use Rattle.codelist.specs.InFull as loading
 use Rattle.codelist.specs.Load as load
 use Rattle.codelist.specs.Read.{Read, good, bad, peek, rest, digit, literal, field}
 use Rattle.codelist.specs.Text.{IsNumeral, factors→, decimal, numeral_text}
@@ -85,8 +85,8 @@ unfolding answer_of
 answer-short s = by_count (count_line s)
   where
     by-outcome : (x : List ℕ) (o : loading.Outcome) → (load.load_of x).outcome ≡ o → length (sheet_printed o x) ≤ 4097
-    by-outcome x loading.TheVariants.Accepted e = omega (arith, accepted-short x e)
-    by-outcome x (loading.TheVariants.Refused r) e = omega (arith, refused-length (load.number_of r) (load.place_of r))
+    by-outcome x loading.Accepted e = omega (arith, accepted-short x e)
+    by-outcome x (loading.Refused r) e = omega (arith, refused-length (load.number_of r) (load.place_of r))
 
     by-sheet : (o : Load.Given (List ℕ)) → length (printed o) ≤ 4097
     by-sheet (given x) = by-outcome x (load.load_of x).outcome refl

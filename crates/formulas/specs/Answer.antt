@@ -2,7 +2,7 @@
 -- It prints the sheet that the formula becomes, where that is accepted, and else the refusal. docs/DECISIONS.md, "Formulas".
 use Rattle.std.specs.Prelude.{Bool, cond, List, ℕ, ◌-◌, leb, eqb, length, take, get_or, replicate}
 use Rattle.codelist.specs.declared.Numeral.{Numeral}
-use Rattle.codelist.specs.declared.Outcome as loading
+use Rattle.codelist.specs.InFull as loading
 use Rattle.codelist.specs.Load as load
 use Rattle.codelist.specs.Read.{Read, good, bad, next, literal, field}
 use Rattle.codelist.specs.Text.{factors→}
@@ -21,8 +21,8 @@ count_in w = cond w.negative 0 w.magnitude
 
 -- What is printed for a sheet x, by what loading it gives
 abbrev pub sheet_printed : loading.Outcome → List ℕ → List ℕ
-sheet_printed loading.TheVariants.Accepted x = x
-sheet_printed (loading.TheVariants.Refused r) x = refused_text (load.number_of r) (load.place_of r)
+sheet_printed loading.Accepted x = x
+sheet_printed (loading.Refused r) x = refused_text (load.number_of r) (load.place_of r)
 
 abbrev pub printed : Given (List ℕ) → List ℕ
 printed (given x) = sheet_printed (load.load_of x).outcome x

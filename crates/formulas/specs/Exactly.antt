@@ -3,7 +3,7 @@
 use Rattle.std.specs.Prelude.{ℕ, ◌≤◌, List, [], ◌∷◌, ◌↔◌, ◌⊎◌, ◌≡◌, length}
 use Rattle.std.proofs.Math.Option.{none, some}
 use Rattle.codelist.specs.declared.Codelist.{Codelist}
-use Rattle.codelist.specs.declared.Loaded.{Loaded}
+use Rattle.codelist.specs.InFull.{Loaded}
 use Rattle.codelist.specs.declared.Refusal as codelist
 use Rattle.codelist.specs.Load as load
 use Rattle.codelist.specs.Text.{TextLine, HasNumerals}

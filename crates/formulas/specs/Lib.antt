@@ -6,6 +6,7 @@ pub mod Units
 pub mod Value
 pub mod Convert
 pub mod Read
+pub mod InFull
 pub mod Load
 pub mod Exactly
 pub mod Answer

@@ -2,11 +2,11 @@
 -- 20, and both before loading."
 use Rattle.std.specs.Prelude.{ℕ, List, ◌∷◌, length, take}
 use Rattle.std.proofs.Math.Option.{Option, none, some}
-use Rattle.codelist.specs.declared.Loaded.{Loaded}
+use Rattle.codelist.specs.InFull.{Loaded}
 use Rattle.codelist.specs.Load.{load_of, load_numbers}
 use Rattle.writer.specs.Lent.{lent, put_text}
-use Rattle.formulas.specs.declared.Converted.{Converted}
-use Rattle.formulas.specs.declared.Converted.TheVariants as converted
+use Rattle.formulas.specs.InFull.{Converted}
+use Rattle.formulas.specs.InFull as converted
 use Rattle.formulas.specs.declared.Refusal.{Refusal}
 use Rattle.formulas.specs.declared.Refusal.TheVariants.{Text, Constants}
 use Rattle.formulas.specs.Convert.{sheet_of}

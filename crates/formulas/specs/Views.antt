@@ -1,25 +1,27 @@
--- For contracts of private functions: where the readers stand before and after they read, what stands in the lent bytes then, and what a line more
--- adds to them.
-use Rattle.std.specs.Prelude.{ℕ, ◌+◌, ◌*◌, ◌^◌, ◌≤◌, ◌<◌, true, false, List, ◌≡◌, length, drop}
+-- For contracts of private functions: what stands in a sheet that is being written, what a line more adds to it, and what the readers find.
+use Rattle.std.specs.Prelude.{ℕ, ◌+◌, ◌-◌, ◌*◌, ◌^◌, ◌≤◌, ◌<◌, List, [], ◌≡◌, length}
 use Rattle.std.proofs.Math.Option.{Option, none, some}
-use Rattle.codelist.specs.Text.{TextLine}
-use Rattle.writer.specs.Lent.{Lent, lent, put_text}
-use Rattle.formulas.specs.declared.Converted.{Converted}
-use Rattle.formulas.specs.declared.Converted.TheVariants as converted
-use Rattle.formulas.specs.declared.reader.Operand as declared
-use Rattle.formulas.specs.declared.reader.State.{State}
-use Rattle.formulas.specs.declared.reader.Read.{Read}
-use Rattle.formulas.specs.declared.reader.Read.TheVariants as read
-use Rattle.formulas.specs.declared.reader.ConstantRead.{ConstantRead}
-use Rattle.formulas.specs.declared.reader.ConstantRead.TheVariants as c
+use Rattle.std.specs.declared.option.Option.{Option as Maybe}
+use Rattle.std.specs.declared.option.Option.TheVariants.{Some, None}
+use Rattle.std.specs.Borrow.{Bor}
+use Rattle.std.specs.declared.result.Result.{Result}
+use Rattle.std.specs.declared.result.Result.TheVariants.{Ok, Err}
+use Rattle.codelist.specs.Text.{TextLine, absent, first_text}
+use Rattle.codelist.specs.Write.{plain}
+use Rattle.codelist.specs.Read.{peek, rest, digit}
+use Rattle.writer.specs.Lent.{Lent, put_text}
+use Rattle.formulas.specs.declared.Refusal.{Refusal}
+use Rattle.formulas.specs.declared.lines.Operand as code
+use Rattle.formulas.specs.declared.lines.Sign as sign
+use Rattle.formulas.specs.declared.lines.Sheet.{Sheet}
 use Rattle.formulas.specs.declared.reader.Run.{Run}
-use Rattle.formulas.specs.declared.reader.Sign as sign
-use Rattle.formulas.specs.declared.reader.SignRead as s
+use Rattle.formulas.specs.declared.reader.Rank as rank
 use Rattle.formulas.specs.Grammar.{Tree, constant, longest, Sign, plus, minus, times, over}
 use Rattle.formulas.specs.Units.{number_from, units_of}
-use Rattle.formulas.specs.Convert.{Operand, fixed, line, Conversion, operand, mixed, convert, lines_text}
-use Rattle.formulas.specs.Read.{Found, good, stuck, digits_up_to, constant_at}
+use Rattle.formulas.specs.Convert.{Operand, fixed, line, Conversion, operand, mixed, convert, joined, raised, lines_text}
+use Rattle.formulas.specs.Read.{Found, good, stuck, digits_up_to, constant_at, leaf_at, powered_at, product_at, sum_at, product_sign, sum_sign, Parsed, tree, fault}
 use Rattle.formulas.specs.Load.{Given, given, refused}
+use Rattle.formulas.specs.Answer.{in_bytes}
 
 -- ════ the code's signs and operands ════
 
@@ -29,134 +31,173 @@ sign_of sign.TheVariants.Minus = minus
 sign_of sign.TheVariants.Times = times
 sign_of sign.TheVariants.Over = over
 
-abbrev pub of_sign : s.SignRead → Option Sign
-of_sign (s.TheVariants.Sign o) = some (sign_of o)
-of_sign s.TheVariants.Nothing = none
+abbrev pub of_sign : Maybe sign.Sign → Option Sign
+of_sign (Some o) = some (sign_of o)
+of_sign None = none
 
-abbrev pub operand_of : declared.Operand → Operand
-operand_of (declared.TheVariants.Fixed c) = fixed c
-operand_of (declared.TheVariants.Line i) = line i
+abbrev pub operand_of : code.Operand → Operand
+operand_of (code.TheVariants.Fixed c) = fixed c
+operand_of (code.TheVariants.Line i) = line i
 
 abbrev pub number : Operand → ℕ
 number (fixed c) = c
 number (line i) = i
 
--- its number has at most ten digits
-abbrev pub Short : declared.Operand → Type 0
-Short x = number (operand_of x) < 10 ^ 10
+-- its number, where there is one, has at most ten digits
+abbrev pub Short : Maybe code.Operand → Type 0
+Short (Some x) = number (operand_of x) < 10 ^ 10
+Short None = Unit
 
--- ════ places: at most two lines are written for each byte that is read ════
+-- ════ the sheet ════
 
--- Before reading
-pub record Ready (s : List ℕ) (n : ℕ) (st : State) : Type 0 where
-  pub short : length s ≤ longest
-  pub factors : n ≤ 9
-  pub inside : st.at ≤ length s
-  pub few : st.lines ≤ 2 * st.at
-
--- After reading
-abbrev pub Advanced : List ℕ → State → Read → Type 0
-Advanced s st (read.Good r) =
-    (st.at < r.at) × (r.at ≤ length s) × (r.lines + 2 * st.at ≤ st.lines + 2 * r.at) × Short r.operand
-Advanced s st (read.Stuck t) = t ≤ length s
-
-abbrev pub Inside : List ℕ → Read → Type 0
-Inside s (read.Good r) = r.at ≤ length s
-Inside s (read.Stuck t) = t ≤ length s
-
--- ════ digits ════
-
-pub record IsRun (s : List ℕ) (from most : ℕ) (r : Run) : Type 0 where
-  pub place : r.at ≡ from + r.count
-  pub few : r.count ≤ most
-  pub inside : r.at ≤ length s
-  pub value : r.value < 10 ^ r.count
-  pub read : (ds : List ℕ) × (digits_up_to most (drop from s) ≡ good ds (drop r.at s)) × (r.value ≡ number_from 0 ds) × (r.count ≡ length ds)
-
-abbrev pub IsConstantRead : List ℕ → ℕ → ConstantRead → Type 0
-IsConstantRead s from (c.Good v t) =
-    (from < t) × (t ≤ length s) × (v < 10 ^ 10)
-    × ((w p : List ℕ) × (constant_at (drop from s) ≡ good (constant w p) (drop t s)) × (v ≡ units_of w p))
-IsConstantRead s from (c.Stuck t) = (t ≤ length s) × (constant_at (drop from s) ≡ stuck (drop t s))
-
--- ════ lines in the lent bytes ════
-
--- The state after one line more, up to the byte `len`: it is the operand
-abbrev pub with_line : ℕ → State → ℕ → State
-with_line n st len =
-    record { at = st.at; operand = declared.TheVariants.Line (n + st.lines + 1); lines = st.lines + 1; len = len; mixed = false }
+-- The number of the codelist line after those that were written
+abbrev pub next : Sheet → ℕ
+next h = h.factors + h.lines + 1
 
 -- One line more, of the given text
-pub record Added (n : ℕ) (st : State) (before after text : List ℕ) (r : State) : Type 0 where
-  pub state : r ≡ with_line n st r.len
-  pub out : lent after r.len ≡ put_text (lent before st.len) text
+abbrev pub with_line : Sheet → List ℕ → Sheet
+with_line h text = record { text = put_text h.text text; factors = h.factors; lines = h.lines + 1 }
 
--- The lines ls stand in the bytes, behind what stood there in `base`
-pub record Draft (base : Lent) (bytes : List ℕ) (st : State) (ls : List TextLine) : Type 0 where
-  pub lines : st.lines ≡ length ls
-  pub out : lent bytes st.len ≡ put_text base (lines_text ls)
+-- The first line alone
+abbrev pub begun : ℕ → Sheet
+begun n = record { text = in_bytes (first_text (plain n) absent); factors = n; lines = 0 }
 
-pub record Holds (base : Lent) (bytes : List ℕ) (st : State) (x : Operand) (ls : List TextLine) : Type 0 where
-  pub clean : st.mixed ≡ false
-  pub value : operand_of st.operand ≡ x
-  pub draft : Draft base bytes st ls
+-- There is room in it for a line: its count is one, and so many lines at most were written
+abbrev pub Room : ℕ → Sheet → Type 0
+Room most h = (h.factors ≤ 9) × (h.lines ≤ most)
 
-abbrev pub HoldsAll : Lent → List ℕ → State → Conversion → Type 0
-HoldsAll base bytes st (operand x ls) = Holds base bytes st x ls
-HoldsAll base bytes st mixed = st.mixed ≡ true
+-- The lines ls stand in the sheet, behind what stood there in `base`
+pub record Draft (base : Lent) (h : Sheet) (ls : List TextLine) : Type 0 where
+  pub lines : h.lines ≡ length ls
+  pub text : h.text ≡ put_text base (lines_text ls)
 
--- What a function that writes lines makes of a state st
-pub record Makes (most : ℕ) (st : State) (before after : List ℕ) (r : State) (f : Operand → List TextLine → Conversion) : Type 0 where
-  pub place : r.at ≡ st.at
-  pub few : r.lines ≤ st.lines + most
-  pub short : Short r.operand
-  pub does : (base : Lent) (x : Operand) (ls : List TextLine) → Holds base before st x ls → HoldsAll base after r (f x ls)
-  pub stays : st.mixed ≡ true → r.mixed ≡ true
+pub record Holds (base : Lent) (h : Sheet) (x : code.Operand) (y : Operand) (ls : List TextLine) : Type 0 where
+  pub operand : operand_of x ≡ y
+  pub draft : Draft base h ls
 
--- The same, where the state holds lines and the operands are given
-pub record Puts (most : ℕ) (st : State) (before after : List ℕ) (r : State) (f : List TextLine → Conversion) : Type 0 where
-  pub place : r.at ≡ st.at
-  pub few : r.lines ≤ st.lines + most
-  pub short : Short r.operand
-  pub does : (base : Lent) (ls : List TextLine) → Draft base before st ls → HoldsAll base after r (f ls)
+-- what the lines become, with an operand; with none, constants met
+abbrev pub HoldsAll : Lent → Sheet → Maybe code.Operand → Conversion → Type 0
+HoldsAll base h (Some x) (operand y ls) = Holds base h x y ls
+HoldsAll base h None mixed = Unit
+HoldsAll base h (Some x) mixed = ⊥
+HoldsAll base h None (operand y ls) = ⊥
 
--- The state after constants met
-abbrev pub without_line : State → State
-without_line st = record { at = st.at; operand = declared.TheVariants.Fixed 0; lines = st.lines; len = st.len; mixed = true }
+-- What a function that writes at most so many lines makes of a sheet
+pub record Makes (most : ℕ) (before : Sheet) (f : List TextLine → Conversion) (after : Sheet) (r : Maybe code.Operand) : Type 0 where
+  pub factors : after.factors ≡ before.factors
+  pub few : after.lines ≤ before.lines + most
+  pub short : Short r
+  pub does : (base : Lent) (ls : List TextLine) → Draft base before ls → HoldsAll base after r (f ls)
 
--- ════ the readers ════
+-- an operand with the exponent m
+abbrev pub Raised : Sheet → Maybe code.Operand → ℕ → Sheet → Maybe code.Operand → Type 0
+Raised before (Some x) m after r = Makes 1 before (λ ls. raised before.factors (operand_of x) m ls) after r
+Raised before None m after r = (after ≡ before) × (r ≡ None)
 
--- The same state at another place, with another operand
-abbrev pub moved_to : State → ℕ → declared.Operand → State
-moved_to st at x = record { at = at; operand = x; lines = st.lines; len = st.len; mixed = st.mixed }
+-- two operands and the sign between them
+abbrev pub Joined : Sheet → Sign → Maybe code.Operand → Maybe code.Operand → Sheet → Maybe code.Operand → Type 0
+Joined before o (Some x) (Some y) after r = Makes 2 before (λ ls. joined before.factors o (operand_of x) (operand_of y) ls) after r
+Joined before o (Some x) None after r = (after ≡ before) × (r ≡ None)
+Joined before o None y after r = (after ≡ before) × (r ≡ None)
 
--- Before a reader: the lines ls were written, or constants met
-abbrev pub Started : Lent → List ℕ → State → Option (List TextLine) → Type 0
-Started base bytes st (some ls) = (st.mixed ≡ false) × Draft base bytes st ls
-Started base bytes st none = st.mixed ≡ true
+-- ════ bytes and digits, at the front of a text ════
 
-abbrev pub convert_from : ℕ → Tree → Option (List TextLine) → Conversion
-convert_from n t (some ls) = convert n t ls
-convert_from n t none = mixed
+-- a digit
+abbrev pub IsDigit : List ℕ → Maybe (ℕ × Bor (List ℕ)) → Type 0
+IsDigit s (Some r) = (digit (peek s) ≡ r.0) × (r.0 < 10) × (rest s ≡ r.1.now)
+IsDigit s None = 10 ≤ digit (peek s)
 
--- What a reader of the code gives is what the reader of specs/Read.antt finds: the place, and the lines of the tree
-abbrev pub Does : ℕ → List ℕ → List ℕ → State → Found Tree → List ℕ → Read → Type 0
-Does n s before st (good t u) after (read.Good r) =
-    (drop r.at s ≡ u)
-    × ((base : Lent) (e : Option (List TextLine)) → Started base before st e → HoldsAll base after r (convert_from n t e))
-Does n s before st (good t u) after (read.Stuck k) = ⊥
-Does n s before st (stuck u) after (read.Good r) = ⊥
-Does n s before st (stuck u) after (read.Stuck k) = drop k s ≡ u
+pub record IsRun (s : List ℕ) (most : ℕ) (r : Run) : Type 0 where
+  pub some : 1 ≤ r.count
+  pub few : r.count ≤ most
+  pub onward : length r.rest.now + r.count ≡ length s
+  pub value : r.value < 10 ^ r.count
+  pub read : (ds : List ℕ) × (digits_up_to most s ≡ good ds r.rest.now) × (r.value ≡ number_from 0 ds) × (r.count ≡ length ds)
 
--- Where reading starts, behind a first line of so many bytes
-abbrev pub start_at : ℕ → State
-start_at len = record { at = 0; operand = declared.TheVariants.Fixed 0; lines = 0; len = len; mixed = false }
+abbrev pub AreDigits : List ℕ → ℕ → Result Run (Bor (List ℕ)) → Type 0
+AreDigits s most (Ok r) = IsRun s most r
+AreDigits s most (Err t) = (t.now ≡ s) × (digits_up_to most s ≡ good [] s)
 
--- ════ the whole sheet ════
+abbrev pub IsConstant : List ℕ → Result (ℕ × Bor (List ℕ)) (Bor (List ℕ)) → Type 0
+IsConstant s (Ok r) =
+    (length r.1.now < length s) × (r.0 < 10 ^ 10)
+    × ((w p : List ℕ) × (constant_at s ≡ good (constant w p) r.1.now) × (r.0 ≡ units_of w p))
+IsConstant s (Err t) = (length t.now ≤ length s) × (constant_at s ≡ stuck t.now)
 
--- What is written into bytes of any length, and the place after it
-abbrev pub Drafts : List ℕ → List ℕ → Given (List ℕ) → Converted → Type 0
-Drafts before after (given x) (converted.Sheet len) = lent after len ≡ put_text (lent before 0) x
-Drafts before after (given x) (converted.Refused r) = ⊥
-Drafts before after (refused r) (converted.Sheet len) = ⊥
-Drafts before after (refused r) (converted.Refused q) = q ≡ r
+-- a factor or a constant, of which no line is written
+pub record LeafIs (s : List ℕ) (n : ℕ) (x : code.Operand) (t : List ℕ) : Type 0 where
+  pub onward : length t < length s
+  pub short : number (operand_of x) < 10 ^ 10
+  pub tree : Tree
+  pub found : leaf_at s ≡ good tree t
+  pub converts : (ls : List TextLine) → convert n tree ls ≡ operand (operand_of x) ls
+
+abbrev pub IsLeaf : List ℕ → ℕ → Result (code.Operand × Bor (List ℕ)) (Bor (List ℕ)) → Type 0
+IsLeaf s n (Ok r) = LeafIs s n r.0 r.1.now
+IsLeaf s n (Err t) = (length t.now ≤ length s) × (leaf_at s ≡ stuck t.now)
+
+-- ════ signs of a rank, and what they join, over a reader of atoms ════
+
+abbrev pub signs : rank.Rank → ℕ → Option Sign
+signs rank.TheVariants.Product = product_sign
+signs rank.TheVariants.Sum = sum_sign
+
+-- a sign of the rank stands first
+abbrev pub IsSign : rank.Rank → List ℕ → Maybe (sign.Sign × Bor (List ℕ)) → Type 0
+IsSign k s (Some r) = (signs k (peek s) ≡ some (sign_of r.0)) × (rest s ≡ r.1.now)
+IsSign k s None = signs k (peek s) ≡ none
+
+abbrev pub operands : rank.Rank → (List ℕ → Found Tree) → List ℕ → Found Tree
+operands rank.TheVariants.Product = powered_at
+operands rank.TheVariants.Sum = product_at
+
+abbrev pub joined_at : rank.Rank → (List ℕ → Found Tree) → List ℕ → Found Tree
+joined_at rank.TheVariants.Product = product_at
+joined_at rank.TheVariants.Sum = sum_at
+
+-- ════ the readers: at most two lines are written for each byte that is read ════
+
+-- Before reading
+pub record Ready (s : List ℕ) (h : Sheet) : Type 0 where
+  pub factors : h.factors ≤ 9
+  pub few : h.lines + 2 * length s ≤ 2 * longest
+
+-- the lines of a tree were written
+abbrev pub Works : Sheet → Tree → Sheet → Maybe code.Operand → Type 0
+Works before t after x = (base : Lent) (ls : List TextLine) → Draft base before ls → HoldsAll base after x (convert before.factors t ls)
+
+-- The reader a of specs/Read.antt finds a tree, and its lines are written
+pub record Gone (s : List ℕ) (before : Sheet) (a : List ℕ → Found Tree) (after : Sheet) (x : Maybe code.Operand) (u : List ℕ) : Type 0 where
+  pub onward : length u < length s
+  pub factors : after.factors ≡ before.factors
+  pub few : after.lines + 2 * length u ≤ before.lines + 2 * length s
+  pub short : Short x
+  pub tree : Tree
+  pub found : a s ≡ good tree u
+  pub works : Works before tree after x
+
+-- It finds none, and u is left from the byte on that can't follow
+pub record Stops (s : List ℕ) (a : List ℕ → Found Tree) (u : List ℕ) : Type 0 where
+  pub onward : length u ≤ length s
+  pub found : a s ≡ stuck u
+
+-- A reader of the code reads what a reads
+abbrev pub Reads : List ℕ → Sheet → (List ℕ → Found Tree) → Sheet → Result (Maybe code.Operand × Bor (List ℕ)) (Bor (List ℕ)) → Type 0
+Reads s before a after (Ok r) = Gone s before a after r.0 r.1.now
+Reads s before a after (Err u) = Stops s a u.now
+
+-- ════ the whole text, of so many bytes ════
+
+-- Its tree's lines, or the place, which is counted from 1
+abbrev pub Parses : ℕ → Sheet → Parsed → Sheet → Result (Maybe code.Operand) (Bor (List ℕ)) → Type 0
+Parses n before (tree t) after (Ok x) = Works before t after x
+Parses n before (tree t) after (Err u) = ⊥
+Parses n before (fault p) after (Ok x) = ⊥
+Parses n before (fault p) after (Err u) = (p ≡ n - length u.now + 1) × (length u.now ≤ n)
+
+-- The sheet's text, as far as there is room
+abbrev pub Drafts : Given (List ℕ) → Result Lent Refusal → Type 0
+Drafts (given x) (Ok t) = t ≡ in_bytes x
+Drafts (given x) (Err r) = ⊥
+Drafts (refused r) (Ok t) = ⊥
+Drafts (refused r) (Err q) = q ≡ r

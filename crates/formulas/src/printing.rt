@@ -1,86 +1,51 @@
 // The text side of the program `formula`: its first line, the text after it, and what is printed.
-ghost use Rattle.std.specs.Prelude.{◌≡◌, cond, ◌≤◌, leb, length, drop};
-ghost use Rattle.writer.specs.Lent.{lent};
+ghost use Rattle.std.specs.Prelude.{◌≡◌};
+ghost use Rattle.codelist.specs.Read.{read_of};
 ghost use Rattle.writer.specs.Texts.{refused_text};
 ghost use Rattle.formulas.specs.Load.{sheet_for};
-ghost use Rattle.formulas.specs.Answer.{count_in, printed, is_ended, after_first, in_bytes};
+ghost use Rattle.formulas.specs.Answer.{count_in, count_line, printed, after_first, in_bytes};
 
-use super::{Converted, LONGEST, Output};
+use super::LONGEST;
 use codelist::Numeral;
-
-const LINE_END: u8 = 10;
+use writer::Text;
 
 // A refusal's line.
-pub(crate) fn refused(number: u64, place: u64) -> Output
-    ensures { lent result.bytes result.len ≡ in_bytes (refused_text number place) }
+pub(crate) fn refused(number: u64, place: u64) -> Text<4097>
+    ensures { result ≡ in_bytes (refused_text number place) }
 {
-    let mut bytes = [0u8; 4097];
-    let len = writer::refusal(&mut bytes, 0, number, place);
-    Output {
-        bytes: bytes,
-        len: len,
-    }
+    let mut out = Text::new();
+    out.refusal(number, place);
+    out
 }
 
-// The count that the first line gives.
-pub(crate) fn count_in(n: Numeral) -> u64
-    ensures { result ≡ count_in n }
+// The first line's numeral, and what follows the line.
+pub(crate) fn count_line(input: &[u8]) -> Option<(Numeral, &[u8])>
+    ensures { read_of result ≡ count_line input.now }
 {
-    if n.negative { 0 } else { n.magnitude }
+    codelist::field(input.strip_prefix(b"factors\t")?, b'\n')
 }
 
 // What a formula's text becomes.
-fn printed(text: &[u8], count: u64) -> Output
-    ensures { lent result.bytes result.len ≡ in_bytes (printed (sheet_for text.now count)) }
+fn printed(text: &[u8], count: u64) -> Text<4097>
+    ensures { result ≡ in_bytes (printed (sheet_for text.now count)) }
 {
-    let mut sheet = [0u8; 4097];
-    match super::convert(text, count, &mut sheet) {
-        Converted::Sheet(len) => {
-            let l = codelist::load(&sheet[..len]);
-            let outcome = l.outcome;
-            match outcome {
-                codelist::Outcome::Accepted => Output {
-                    bytes: sheet,
-                    len: len,
-                },
-                codelist::Outcome::Refused(r) => refused(r.number() as u64, r.place()),
-            }
-        }
-        Converted::Refused(why) => refused(why.number() as u64, why.place()),
+    match super::draft(text, count) {
+        Ok(sheet) => match codelist::load(sheet.as_slice()) {
+            Ok(_) => sheet,
+            Err(why) => refused(u64::from(why.number()), why.place()),
+        },
+        Err(why) => refused(u64::from(why.number()), why.place()),
     }
 }
 
-// A text without its final byte 10.
-fn unended(len: usize) -> Output
-    ensures { lent result.bytes result.len ≡ in_bytes (cond (leb len 1024) (refused_text 2 2) (refused_text 19 1025)) }
+// What follows the first line: a text, ended by byte 10. A missing end is 2 at 2, but a text over 1,024 bytes comes first.
+// The numbers are 02's: of 2 and 19 there is no refusal's value here. A negative count is as far outside 1 to 8 as 0.
+pub(crate) fn after_first(rest: &[u8], count: Numeral) -> Text<4097>
+    ensures { result ≡ in_bytes (after_first (count_in count) rest.now) }
 {
-    if len <= LONGEST {
-        refused(2, 2)
-    } else {
-        refused(19, 1025)
-    }
-}
-
-// Whether what stands from a place on is ended by byte 10.
-fn is_ended(input: &[u8], from: usize) -> bool
-    ensures { result ≡ is_ended (drop from input.now) }
-{
-    if from < input.len() {
-        input[input.len() - 1] == LINE_END
-    } else {
-        false
-    }
-}
-
-// What follows the first line, from a place on.
-pub(crate) fn after_first(input: &[u8], from: usize, count: u64) -> Output
-    requires { from ≤ length input.now }
-    ensures { lent result.bytes result.len ≡ in_bytes (after_first count (drop from input.now)) }
-{
-    if is_ended(input, from) {
-        let last = input.len() - 1;
-        printed(&input[from..last], count)
-    } else {
-        unended(input.len() - from)
+    match rest.split_last() {
+        Some((b'\n', text)) => printed(text, if count.negative { 0 } else { count.magnitude }),
+        _ if rest.len() <= LONGEST => refused(2, 2),
+        _ => refused(19, 1025),
     }
 }

@@ -1,169 +1,80 @@
-// The readers of a formula: sums, products and atoms, which call each other in a cycle. Bytes left and depth fall.
-ghost use Rattle.std.specs.Prelude.{◌≡◌, List, ℕ, ◌+◌, ◌-◌, ◌^◌, ◌≤◌, ◌<◌, length, drop};
-ghost use Rattle.formulas.specs.Views.{Ready, Advanced, Inside, IsRun, IsConstantRead, of_sign, moved_to, start_at, Does};
+// The readers of a formula: sums, products and atoms, which call each other in a cycle. Bytes left and depth fall. Each reads the front of a text, and
+// gives what it read with the bytes that are left; or the bytes from the one on that can't follow.
+ghost use Rattle.std.specs.Prelude.{◌≡◌, ◌+◌, ◌*◌, ◌≤◌, length};
+ghost use Rattle.formulas.specs.Views.{Ready, Reads, IsDigit, AreDigits, IsConstant, IsLeaf, IsSign, operands, joined_at, Parses};
 ghost use Rattle.formulas.specs.Convert.{reference};
-ghost use Rattle.formulas.specs.Read.{sum_sign, product_sign, leaf_at, atom_at, powered_at, product_at, sum_at};
+ghost use Rattle.formulas.specs.Read.{atom_at, powered_at, sum_at, ended};
 ghost use Rattle.formulas.specs.Grammar.{deepest};
 
-use crate::lines;
-use codelist::numerals::{byte_at, digit_at};
+use crate::lines::{Operand, Sheet, Sign};
 
 const DEEPEST: u64 = 16;
 
-// Bytes of the text.
-const OPEN: u64 = 40;
+// What a reader of operands gives: none where constants met.
+type Read<'a> = Result<(Option<Operand>, &'a [u8]), &'a [u8]>;
 
-const CLOSE: u64 = 41;
-
-const TIMES: u64 = 42;
-
-const PLUS: u64 = 43;
-
-const MINUS: u64 = 45;
-
-const POINT: u64 = 46;
-
-const OVER: u64 = 47;
-
-const ZERO: u64 = 48;
-
-const ONE: u64 = 49;
-
-const EIGHT: u64 = 56;
-
-const CARET: u64 = 94;
-
-const LETTER: u64 = 102;
-
-// The four signs between two operands.
+// What signs join: powers to a product, or products to a sum.
 #[derive(Clone, Copy)]
-pub(crate) enum Sign {
-    Plus,
-    Minus,
-    Times,
-    Over,
+enum Rank {
+    Product,
+    Sum,
 }
 
-// The sign at a place, where there is one.
+// Digits: the number they write, how many they are, and the bytes that are left.
 #[derive(Clone, Copy)]
-pub(crate) enum SignRead {
-    Sign(Sign),
-    Nothing,
-}
-
-// An operand: a constant in units, or the number of the codelist line that holds it.
-#[derive(Clone, Copy)]
-pub(crate) enum Operand {
-    Fixed(u64),
-    Line(u64),
-}
-
-// After an operand: the place, the operand, and what was written of the sheet: its operation lines and its bytes. Where constants met, what was
-// written and the operand mean nothing any more.
-#[derive(Clone, Copy)]
-pub(crate) struct State {
-    pub(crate) at: usize,
-    pub(crate) operand: Operand,
-    pub(crate) lines: u64,
-    pub(crate) len: usize,
-    pub(crate) mixed: bool,
-}
-
-// What a reader finds: an operand, or the place of the byte that can't follow.
-#[derive(Clone, Copy)]
-pub(crate) enum Read {
-    Good(State),
-    Stuck(usize),
-}
-
-// Digits: their number, how many they are, and the place after them.
-#[derive(Clone, Copy)]
-struct Run {
-    at: usize,
+struct Run<'a> {
     value: u64,
-    count: u64,
+    count: u32,
+    rest: &'a [u8],
 }
 
-// A constant in units, and the place after it.
-#[derive(Clone, Copy)]
-enum ConstantRead {
-    Good(u64, usize),
-    Stuck(usize),
-}
-
-// Digits from a place on, at most so many.
-fn digits_at(s: &[u8], from: usize, most: u64) -> Run
-    requires { (most ≤ 6) × (from ≤ length s.now) }
-    ensures { IsRun s.now from most result }
+// The value of a digit.
+fn digit(s: &[u8]) -> Option<(u64, &[u8])>
+    ensures { IsDigit s.now result }
 {
-    let mut at = from;
-    let mut value: u64 = 0;
-    let mut count: u64 = 0;
-    while count < most {
-        let d = digit_at(s, at);
-        if 10 <= d {
-            return Run {
-                at: at,
-                value: value,
-                count: count,
-            };
-        }
-        value = value * 10 + d;
-        at += 1;
-        count += 1;
-    }
-    Run {
-        at: at,
-        value: value,
-        count: count,
+    let (byte, rest) = s.split_first()?;
+    match *byte {
+        b'0'..=b'9' => Some((u64::from(*byte - b'0'), rest)),
+        _ => None,
     }
 }
 
-// 10 to the power 4 - k: what a number of k decimals is multiplied by to count units.
-fn scale(k: u64) -> u64
-    ensures { (result ≤ 1000) × (1 ≤ k → k ≤ 4 → result ≡ 10 ^ (4 - k)) }
+// At least one digit, and at most so many.
+fn digits(s: &[u8], most: u32) -> Result<Run, &[u8]>
+    requires { most ≤ 6 }
+    ensures { AreDigits s.now most result }
 {
-    match k {
-        1 => 1000,
-        2 => 100,
-        3 => 10,
-        _ => 1,
+    let mut run = Run {
+        value: 0,
+        count: 0,
+        rest: s,
+    };
+    for count in 0..most {
+        let Some((d, rest)) = digit(run.rest) else {
+            break;
+        };
+        run = Run {
+            value: run.value * 10 + d,
+            count: count + 1,
+            rest,
+        };
     }
+    if run.count == 0 { Err(s) } else { Ok(run) }
 }
 
-// "one to six digits and, where a point follows, one to four more"
-fn constant_at(s: &[u8], at: usize) -> ConstantRead
-    requires { at ≤ length s.now }
-    ensures { IsConstantRead s.now at result }
+// "one to six digits and, where a point follows, one to four more", in units
+fn constant(s: &[u8]) -> Result<(u64, &[u8]), &[u8]>
+    ensures { IsConstant s.now result }
 {
-    let whole = digits_at(s, at, 6);
-    if whole.count == 0 {
-        return ConstantRead::Stuck(at);
-    }
-    if byte_at(s, whole.at) != POINT {
-        return ConstantRead::Good(whole.value * 10_000, whole.at);
-    }
-    let part = digits_at(s, whole.at + 1, 4);
-    if part.count == 0 {
-        return ConstantRead::Stuck(whole.at + 1);
-    }
-    ConstantRead::Good(
-        whole.value * 10_000 + part.value * scale(part.count),
-        part.at,
-    )
-}
-
-// The state after the operand x, which was read up to `at`.
-fn moved(st: State, at: usize, x: Operand) -> State
-    ensures { result ≡ moved_to st at x }
-{
-    State {
-        at: at,
-        operand: x,
-        lines: st.lines,
-        len: st.len,
-        mixed: st.mixed,
-    }
+    let whole = digits(s, 6)?;
+    let Some(decimals) = whole.rest.strip_prefix(b".") else {
+        return Ok((whole.value * 10_000, whole.rest));
+    };
+    let part = digits(decimals, 4)?;
+    Ok((
+        whole.value * 10_000 + part.value * 10_u64.pow(4 - part.count),
+        part.rest,
+    ))
 }
 
 // "a factor beyond the count is written as reference 0"
@@ -174,207 +85,112 @@ fn reference(n: u64, i: u64) -> u64
 }
 
 // A factor or a constant.
-fn leaf_at(s: &[u8], n: u64, start: State) -> Read
-    requires { Ready s.now n start }
-    ensures advanced { Advanced s.now start result }
-    ensures by_index { (bytes : List ℕ) → Does n s.now bytes start (leaf_at (drop start.at s.now)) bytes result }
+fn leaf(s: &[u8], n: u64) -> Result<(Operand, &[u8]), &[u8]>
+    ensures { IsLeaf s.now n result }
 {
-    let at = start.at;
-    if byte_at(s, at) == LETTER {
-        let b = byte_at(s, at + 1);
-        if b < ONE {
-            return Read::Stuck(at + 1);
-        }
-        if EIGHT < b {
-            return Read::Stuck(at + 1);
-        }
-        return Read::Good(moved(start, at + 2, Operand::Line(reference(n, b - ZERO))));
+    let Some(number) = s.strip_prefix(b"f") else {
+        let (units, rest) = constant(s)?;
+        return Ok((Operand::Fixed(units), rest));
+    };
+    let Some((i, rest)) = digit(number) else {
+        return Err(number);
+    };
+    if i == 0 || i == 9 {
+        return Err(number);
     }
-    match constant_at(s, at) {
-        ConstantRead::Good(c, t) => Read::Good(moved(start, t, Operand::Fixed(c))),
-        ConstantRead::Stuck(t) => Read::Stuck(t),
-    }
+    Ok((Operand::Line(reference(n, i)), rest))
 }
 
-// The same state, at another place.
-fn at_place(st: State, at: usize) -> State
-    ensures { result ≡ moved_to st at st.operand }
-{
-    let x = st.operand;
-    State {
-        at: at,
-        operand: x,
-        lines: st.lines,
-        len: st.len,
-        mixed: st.mixed,
+impl Rank {
+    // A sign of this rank.
+    fn sign(self, s: &[u8]) -> Option<(Sign, &[u8])>
+        ensures { IsSign self s.now result }
+    {
+        let (byte, rest) = s.split_first()?;
+        match (self, *byte) {
+            (Rank::Product, b'*') => Some((Sign::Times, rest)),
+            (Rank::Product, b'/') => Some((Sign::Over, rest)),
+            (Rank::Sum, b'+') => Some((Sign::Plus, rest)),
+            (Rank::Sum, b'-') => Some((Sign::Minus, rest)),
+            _ => None,
+        }
     }
 }
 
 // An atom, with room for so many brackets inside one another.
-#[cycle(atom_at_powered_at_product_at_sum_at)]
-fn atom_at(s: &[u8], room: u64, n: u64, out: &mut [u8], start: State) -> Read
-    requires { Ready s.now n start }
-    ensures advanced { Advanced s.now start result }
-    ensures does { Does n s.now out.old start (atom_at room (drop start.at s.now)) out.new result }
+// `Ready` is of the text and the sheet at once; the room falls with each bracket, and so is no part of either.
+#[cycle(readers)]
+fn atom<'a>(s: &'a [u8], room: u64, sheet: &mut Sheet) -> Read<'a>
+    requires { Ready s.now sheet.old }
+    ensures { Reads s.now sheet.old (atom_at room) sheet.new result }
 {
-    let at = start.at;
-    if room == 0 {
-        return leaf_at(s, n, start);
-    }
-    if byte_at(s, at) != OPEN {
-        return leaf_at(s, n, start);
-    }
-    match sum_at(s, room - 1, n, out, at_place(start, at + 1)) {
-        Read::Good(inner) => {
-            let t = inner.at;
-            if byte_at(s, t) == CLOSE {
-                Read::Good(at_place(inner, t + 1))
-            } else {
-                Read::Stuck(t)
+    match s.strip_prefix(b"(") {
+        Some(inside) if 0 < room => {
+            let (inner, rest) = joined(inside, room - 1, sheet, Rank::Sum)?;
+            match rest.strip_prefix(b")") {
+                Some(after) => Ok((inner, after)),
+                None => Err(rest),
             }
         }
-        Read::Stuck(t) => Read::Stuck(t),
+        _ => {
+            let (operand, rest) = leaf(s, sheet.factors)?;
+            Ok((Some(operand), rest))
+        }
     }
 }
 
 // An atom, with one exponent or none.
-#[cycle(atom_at_powered_at_product_at_sum_at)]
-fn powered_at(s: &[u8], room: u64, n: u64, out: &mut [u8], start: State) -> Read
-    requires { Ready s.now n start }
-    ensures advanced { Advanced s.now start result }
-    ensures does { Does n s.now out.old start (powered_at (atom_at room) (drop start.at s.now)) out.new result }
+#[cycle(readers)]
+fn powered<'a>(s: &'a [u8], room: u64, sheet: &mut Sheet) -> Read<'a>
+    requires { Ready s.now sheet.old }
+    ensures { Reads s.now sheet.old (powered_at (atom_at room)) sheet.new result }
 {
-    match atom_at(s, room, n, out, start) {
-        Read::Good(base) => {
-            let t = base.at;
-            if byte_at(s, t) != CARET {
-                return Read::Good(base);
-            }
-            let m = digit_at(s, t + 1);
-            if 10 <= m {
-                return Read::Stuck(t + 1);
-            }
-            Read::Good(lines::raise(n, out, at_place(base, t + 2), m))
-        }
-        Read::Stuck(t) => Read::Stuck(t),
+    let (base, rest) = atom(s, room, sheet)?;
+    let Some(exponent) = rest.strip_prefix(b"^") else {
+        return Ok((base, rest));
+    };
+    let Some((m, rest)) = digit(exponent) else {
+        return Err(exponent);
+    };
+    Ok((sheet.raised(base, m), rest))
+}
+
+// What signs of a rank join: no closure in its place, since the cycle has to show that bytes or ranks fall.
+#[cycle(readers)]
+fn part<'a>(s: &'a [u8], room: u64, sheet: &mut Sheet, rank: Rank) -> Read<'a>
+    requires { Ready s.now sheet.old }
+    ensures { Reads s.now sheet.old (operands rank (atom_at room)) sheet.new result }
+{
+    match rank {
+        Rank::Product => powered(s, room, sheet),
+        Rank::Sum => joined(s, room, sheet, Rank::Product),
     }
 }
 
-fn product_sign(b: u64) -> SignRead
-    ensures { of_sign result ≡ product_sign b }
+// Operands, joined by signs of a rank from the left.
+#[cycle(readers)]
+fn joined<'a>(s: &'a [u8], room: u64, sheet: &mut Sheet, rank: Rank) -> Read<'a>
+    requires { Ready s.now sheet.old }
+    ensures { Reads s.now sheet.old (joined_at rank (atom_at room)) sheet.new result }
 {
-    if b == TIMES {
-        return SignRead::Sign(Sign::Times);
+    let (mut left, mut rest) = part(s, room, sheet, rank)?;
+    while let Some((sign, behind)) = rank.sign(rest) {
+        let (right, next) = part(behind, room, sheet, rank)?;
+        left = sheet.joined(sign, left, right);
+        rest = next;
     }
-    if b == OVER {
-        return SignRead::Sign(Sign::Over);
-    }
-    SignRead::Nothing
+    Ok((left, rest))
 }
 
-fn sum_sign(b: u64) -> SignRead
-    ensures { of_sign result ≡ sum_sign b }
+// The whole formula.
+pub(crate) fn formula<'a>(s: &'a [u8], sheet: &mut Sheet) -> Result<Option<Operand>, &'a [u8]>
+    requires { (length s.now ≤ 1024) × (sheet.old.factors ≤ 9) × (sheet.old.lines ≡ 0) }
+    ensures { Parses (length s.now) sheet.old (ended (length s.now) (sum_at (atom_at deepest) s.now)) sheet.new result }
 {
-    if b == PLUS {
-        return SignRead::Sign(Sign::Plus);
+    let (operand, rest) = joined(s, DEEPEST, sheet, Rank::Sum)?;
+    if rest.is_empty() {
+        Ok(operand)
+    } else {
+        Err(rest)
     }
-    if b == MINUS {
-        return SignRead::Sign(Sign::Minus);
-    }
-    SignRead::Nothing
-}
-
-// Powers, joined by `*` and `/` from the left.
-#[cycle(atom_at_powered_at_product_at_sum_at)]
-fn product_at(s: &[u8], room: u64, n: u64, out: &mut [u8], start: State) -> Read
-    requires { Ready s.now n start }
-    ensures advanced { Advanced s.now start result }
-    ensures does { Does n s.now out.old start (product_at (atom_at room) (drop start.at s.now)) out.new result }
-{
-    match powered_at(s, room, n, out, start) {
-        Read::Good(first) => {
-            let mut left = first;
-            loop {
-                let at = left.at;
-                match product_sign(byte_at(s, at)) {
-                    SignRead::Sign(sign) => match powered_at(
-                        s,
-                        room,
-                        n,
-                        out,
-                        at_place(left, at + 1),
-                    ) {
-                        Read::Good(right) => {
-                            left = lines::join(n, out, sign, left, right);
-                        }
-                        Read::Stuck(t) => {
-                            return Read::Stuck(t);
-                        }
-                    },
-                    SignRead::Nothing => {
-                        return Read::Good(left);
-                    }
-                }
-            }
-        }
-        Read::Stuck(t) => Read::Stuck(t),
-    }
-}
-
-// Products, joined by `+` and `-` from the left.
-#[cycle(atom_at_powered_at_product_at_sum_at)]
-fn sum_at(s: &[u8], room: u64, n: u64, out: &mut [u8], start: State) -> Read
-    requires { Ready s.now n start }
-    ensures advanced { Advanced s.now start result }
-    ensures does { Does n s.now out.old start (sum_at (atom_at room) (drop start.at s.now)) out.new result }
-{
-    match product_at(s, room, n, out, start) {
-        Read::Good(first) => {
-            let mut left = first;
-            loop {
-                let at = left.at;
-                match sum_sign(byte_at(s, at)) {
-                    SignRead::Sign(sign) => match product_at(
-                        s,
-                        room,
-                        n,
-                        out,
-                        at_place(left, at + 1),
-                    ) {
-                        Read::Good(right) => {
-                            left = lines::join(n, out, sign, left, right);
-                        }
-                        Read::Stuck(t) => {
-                            return Read::Stuck(t);
-                        }
-                    },
-                    SignRead::Nothing => {
-                        return Read::Good(left);
-                    }
-                }
-            }
-        }
-        Read::Stuck(t) => Read::Stuck(t),
-    }
-}
-
-// The whole formula, after a first line of so many bytes.
-pub(crate) fn formula_at(s: &[u8], n: u64, out: &mut [u8], len: usize) -> Read
-    requires { (length s.now ≤ 1024) × (n ≤ 9) }
-    ensures inside { Inside s.now result }
-    ensures does { Does n s.now out.old (start_at len) (sum_at (atom_at deepest) s.now) out.new result }
-{
-    sum_at(
-        s,
-        DEEPEST,
-        n,
-        out,
-        State {
-            at: 0,
-            operand: Operand::Fixed(0),
-            lines: 0,
-            len: len,
-            mixed: false,
-        },
-    )
 }

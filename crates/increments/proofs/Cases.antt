@@ -13,7 +13,7 @@ use Rattle.rules.specs.declared.Refusal as rules
 use Rattle.rules.specs.declared.Refusal.TheVariants.{RangeCount, BadRange}
 use Rattle.rules.specs.Rate.{pairs}
 use Rattle.engine.specs.declared.Engine.{Engine}
-use Rattle.engine.specs.declared.Outcome.TheVariants.{Accepted, Refused}
+use Rattle.engine.specs.InFull.{Accepted, Refused}
 use Rattle.engine.specs.declared.Refusal.{Refusal}
 use Rattle.engine.specs.declared.Refusal.TheVariants.{Rate}
 use Rattle.engine.specs.Engine.{rated_of}

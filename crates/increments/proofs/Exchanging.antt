@@ -21,10 +21,10 @@ use Rattle.range.specs.Sums.{at}
 use Rattle.range.proofs.Extremes.{lesser-any, lesser-left, lesser-right, greater-any, greater-left, greater-right}
 use Rattle.rules.specs.Rate.{pairs}
 use Rattle.engine.specs.declared.Engine.{Engine}
-use Rattle.engine.specs.declared.Outcome.{Outcome}
-use Rattle.engine.specs.declared.Outcome.TheVariants.{Accepted, Refused}
+use Rattle.engine.specs.InFull.{Outcome}
+use Rattle.engine.specs.InFull.{Accepted, Refused}
 use Rattle.engine.specs.Engine.{rated_of}
-use Rattle.increments.specs.declared.Difference.{Difference}
+use Rattle.increments.specs.InFull.{Difference}
 use Rattle.increments.specs.Call.{first, second, apart_by, holds, outside_from, first_outside, least_sum, greatest_sum, difference_of}
 use Rattle.increments.specs.Call.{unless_outside, boats_of, sisters_of}
 use Rattle.increments.specs.Promises as P

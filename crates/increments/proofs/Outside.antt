@@ -1,5 +1,5 @@
 -- The search for the lowest factor of which a boat's value is outside the range, and what it finds. Assumes nothing.
-use mathlib.Core.Path.{◌≡◌, refl, sym, ◌∙◌}
+use mathlib.Core.Path.{◌≡◌, refl, sym, ap, ◌∙◌}
 use mathlib.Core.Bool.{Bool, true, false, ◌&&◌, cond}
 use mathlib.Core.List.{List}
 use Prim.Native.Nat.{ℕ, zero, suc, ◌+◌, ◌≤◌, ◌<◌}
@@ -7,8 +7,10 @@ use native.Mathlib.Decide.{dec_le}
 use native.Mathlib.Numerals.{add-one}
 use native.Mathlib.Omega.{arith}
 use lib.IntN.{ℤ}
+use Rattle.std.specs.Prelude.{Some, None}
 use Rattle.range.specs.declared.Range.{Range}
 use Rattle.range.specs.Sums.{at}
+use Rattle.bounds.specs.FirstBad.{or_none}
 use Rattle.increments.specs.Call.{first, second, holds, outside_from, first_outside}
 
 module _ (n : ℕ) (rs : List Range) (bs : List ℤ) where
@@ -27,9 +29,9 @@ module _ (n : ℕ) (rs : List Range) (bs : List ℤ) where
   searching-start = record { left = n; few = omega arith; same = refl }
 
   module _ (a : ℕ) (i : Searching a) where
-    pub searching-found : a < n → both_in a ≡ false → a + 1 ≡ first_outside n rs bs
+    pub searching-found : a < n → both_in a ≡ false → Some (a + 1) ≡ or_none (first_outside n rs bs)
     unfolding outside_from
-    searching-found l e = go i.left i.few ∙ i.same
+    searching-found l e = rw (sym (go i.left i.few ∙ i.same), add-one a)
       where
         go : (k : ℕ) → a + k ≡ n → a + 1 ≡ outside_from n rs bs a k
         go zero m = absurd (omega (arith, m, l))
@@ -43,9 +45,9 @@ module _ (n : ℕ) (rs : List Range) (bs : List ℤ) where
         go zero m s = absurd (omega (arith, m, l))
         go (suc k) m s = record { left = k; few = omega (arith, m); same = rw (add-one a) (sym (rw e) ∙ s) }
 
-    pub searching-end : n ≤ a → 0 ≡ first_outside n rs bs
+    pub searching-end : n ≤ a → None ≡ or_none (first_outside n rs bs)
     unfolding outside_from
-    searching-end l = let z : i.left ≡ 0 = omega (arith, i.few, l) in rw z at i.same
+    searching-end l = let z : i.left ≡ 0 = omega (arith, i.few, l) in ap or_none (rw z at i.same)
 
 -- ---- what it finds
 module _ (n : ℕ) (rs : List Range) (bs : List ℤ) where
@@ -75,14 +77,6 @@ module _ (n : ℕ) (rs : List Range) (bs : List ℤ) where
   pub found : Found 0 n (first_outside n rs bs)
   unfolding first_outside
   found = found_from 0 n
-
-  -- it is one of the factors
-  pub outside-few : first_outside n rs bs ≤ n
-  outside-few = go found
-    where
-      go : {m : ℕ} → Found 0 n m → m ≤ n
-      go (none h) = omega arith
-      go (lowest i l m e h) = omega arith
 
   -- where there is none, all are inside
   pub all-inside : 0 ≡ first_outside n rs bs → (a : ℕ) → a < n → both_in n rs bs a ≡ true

@@ -8,13 +8,13 @@ use Rattle.exact.proofs.Rat.{≤ℚ-trans}
 use Rattle.exact.proofs.Units.{down-iff, up-iff}
 use Rattle.rules.specs.declared.Refusal.TheVariants.{RangeCount, BadRange}
 use Rattle.engine.specs.declared.Engine.{Engine}
-use Rattle.engine.specs.declared.Outcome.TheVariants.{Accepted}
+use Rattle.engine.specs.InFull.{Accepted}
 use Rattle.engine.specs.declared.Refusal.{Refusal}
 use Rattle.engine.specs.declared.Refusal.TheVariants.{Rate}
 use Rattle.engine.specs.Engine.{rated_of}
 use Rattle.engine.proofs.Loads.{not-both}
 use Rattle.engine.proofs.Demands.{demands}
-use Rattle.increments.specs.declared.Difference.{Difference}
+use Rattle.increments.specs.InFull.{Difference}
 use Rattle.increments.specs.Call.{difference_of, refused_with, sisters_of}
 use Rattle.increments.specs.Promises.{Bounded, Exact, SistersCall}
 use Rattle.increments.proofs.Cases.{Case, unrated, miscounted, one_outside, both-inside, case}

@@ -22,13 +22,13 @@ use Rattle.rules.specs.Refused as Rules
 use Rattle.rules.specs.Exact.{coordinate}
 use Rattle.rules.proofs.Passing.{refuted-iff}
 use Rattle.engine.specs.declared.Engine.{Engine}
-use Rattle.engine.specs.declared.Outcome.TheVariants.{Accepted, Refused}
+use Rattle.engine.specs.InFull.{Accepted, Refused}
 use Rattle.engine.specs.declared.Refusal.{Refusal}
 use Rattle.engine.specs.declared.Refusal.TheVariants.{Rate}
 use Rattle.engine.specs.Engine.{number_of}
 use Rattle.engine.proofs.Loads.{not-both}
 use Rattle.engine.proofs.Demands.{demands}
-use Rattle.increments.specs.declared.Difference.{Difference}
+use Rattle.increments.specs.InFull.{Difference}
 use Rattle.increments.specs.Call.{first, second, holds, first_outside, refused_with, sisters_of}
 use Rattle.increments.specs.Promises.{one, other, Outside, BoatOutside, LowestOutside, OfClass, SistersRefusedFor}
 use Rattle.increments.proofs.Outside.{both_in, Found, none, lowest, found}

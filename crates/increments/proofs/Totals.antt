@@ -23,7 +23,7 @@ use Rattle.exact.proofs.DivSum.{ceil-raised, floor-sums, ceil-sums}
 use Rattle.exact.proofs.Machine.{le_z-true, le_z-false, fits-abs}
 use Rattle.range.specs.declared.Range.{Range}
 use Rattle.range.specs.Arithmetic.{lesser_of, greater_of}
-use Rattle.range.specs.Limit.{is_valid}
+use Rattle.range.specs.Limit.{from_to, is_valid}
 use Rattle.range.specs.Sums.{at}
 use Rattle.range.proofs.Extremes.{lesser-any, lesser-left, lesser-right, greater-any, greater-left, greater-right}
 use Rattle.range.proofs.Fitting.{InLimit, low-within, high-within}
@@ -31,7 +31,7 @@ use Rattle.range.proofs.Valid.{ends-of, true-T}
 use Rattle.increments.specs.declared.total.Total.{Total}
 use Rattle.increments.specs.Call.{first, second, apart_by, least_sum, greatest_sum}
 use Rattle.increments.specs.Steps.{least_end, greatest_end, Room, with_product, rounded_down, rounded_up, Apart}
-use Rattle.increments.proofs.Shifting.{floor-abs}
+use Rattle.increments.proofs.Dividing.{floor-small}
 
 -- ════ the ends ════
 
@@ -136,9 +136,6 @@ module _ (e d : ℤ) (w : InLimit e) (f : Near d) where
   pub remainder-times : nat_abs (remainder e *ℤ d) ≤ 39996000000000
   remainder-times = times-few (remainder e) d (remainder-few e w) f
 
-  pub multiple-few : nat_abs (pos 10000 *ℤ quotient e) ≤ 2000000000
-  multiple-few = times-few (pos 10000) (quotient e) {m = 10000} (omega arith) (quotient-few e w)
-
 module _ (t : Total) (r : Room t) where
   pub whole-more : (x : ℤ) → nat_abs x ≤ 1000000000000000 → nat_abs (t.whole +ℤ x) ≤ 11000000000000000
   whole-more x h = omega (arith, add-abs t.whole x, r.whole)
@@ -147,11 +144,11 @@ module _ (t : Total) (r : Room t) where
   rest_more x h = omega (arith, add-abs t.rest x, r.rest)
 
 -- the sum, rounded; rounded up it is that of 9,999 more, rounded down
-pub down-read : (t : Total) → nat_abs t.whole ≤ 10000000000000000 → nat_abs t.rest ≤ 1000000000000000
+pub down-read : (t : Total) → nat_abs t.whole ≤ 10000000000000000 → nat_abs t.rest ≤ 9223372036854775808
     → to_z w64 (of_z w64 (rounded_down t)) ≡ rounded_down t
 down-read t w r =
     let q = floor_div t.rest 10000 in
-    few-read (rounded_down t) (omega (arith, add-abs t.whole q, floor-abs t.rest))
+    few-read (rounded_down t) (omega (arith, add-abs t.whole q, floor-small t.rest))
 
 abbrev pub raised_total : Total → Total
 raised_total t = record { whole = t.whole; rest = t.rest +ℤ pos 9999 }
@@ -164,7 +161,7 @@ module _ (t : Total) (r : Room t) where
   raised-few = omega (arith, add-abs t.rest (pos 9999), r.rest)
 
   pub up-read : to_z w64 (of_z w64 (rounded_up t)) ≡ rounded_up t
-  up-read = rw (up-down t) (down-read (raised_total t) r.whole raised-few)
+  up-read = rw (up-down t) (down-read (raised_total t) r.whole (omega (arith, raised-few)))
 
 -- ════ the loop ════
 
@@ -229,17 +226,28 @@ module _ (n : ℕ) (g : List Range) (bs : List ℤ) (end : Range → ℤ → ℤ
 -- ════ the values of two boats, as they are read ════
 
 module _ (n : ℕ) (g : List Range) (bs : List ℤ) (p : Apart n g bs) (a : ℕ) (l : a < n) where
-  pub first_read : to_z w64 (of_z w64 (first bs a)) ≡ first bs a
+  first_read : to_z w64 (of_z w64 (first bs a)) ≡ first bs a
   first_read = few-read (first bs a) (omega (arith, p.first a l))
 
-  pub second-read : to_z w64 (of_z w64 (second n bs a)) ≡ second n bs a
+  second-read : to_z w64 (of_z w64 (second n bs a)) ≡ second n bs a
   second-read = few-read (second n bs a) (omega (arith, p.second a l))
 
   pub near : Near (apart_by n bs a)
   near = omega (arith, add-abs (second n bs a) (neg_ℤ (first bs a)), neg-abs (first bs a), p.first a l, p.second a l)
 
-  pub apart-read : to_z w64 (of_z w64 (apart_by n bs a)) ≡ apart_by n bs a
-  apart-read = few-read (apart_by n bs a) (omega (arith, near))
+  pub apart-read : to_z w64 (of_z w64 (to_z w64 (of_z w64 (second n bs a)) -ℤ to_z w64 (of_z w64 (first bs a)))) ≡ apart_by n bs a
+  apart-read = rw (second-read, first_read) (few-read (apart_by n bs a) (omega (arith, near)))
+
+  -- the ends that the code chose by x, which is the difference
+  module _ {e : Range} {x : ℤ} (is : x ≡ apart_by n bs a) (chosen : e ≡ from_to (least_end (at g a) x) (greatest_end (at g a) x)) where
+    abbrev d : ℤ
+    d = apart_by n bs a
+
+    pub low-read : to_z w64 (of_z w64 e.low) ≡ least_end (at g a) d
+    low-read = rw (chosen, is) (few-read (least_end (at g a) d) (omega (arith, least-within (at g a) d (p.slopes a l))))
+
+    pub high-read : to_z w64 (of_z w64 e.high) ≡ greatest_end (at g a) d
+    high-read = rw (chosen, is) (few-read (greatest_end (at g a) d) (omega (arith, greatest-within (at g a) d (p.slopes a l))))
 
 -- ════ the least and the greatest ════
 

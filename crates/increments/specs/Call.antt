@@ -2,6 +2,8 @@
 -- least and the sum of the greatest products of each slope's ends with that factor's difference." docs/DECISIONS.md, "The sister boats".
 use Rattle.std.specs.Prelude.{Bool, ◌&&◌, cond, List, ℕ, zero, suc, ◌+◌, ◌*◌, eqb, ℤ, pos, ◌+ℤ◌, ◌-ℤ◌, ◌*ℤ◌, length, get_or}
 use Rattle.std.specs.Int.Signed.{le_z}
+use Rattle.std.specs.declared.result.Result.{Result}
+use Rattle.std.specs.declared.result.Result.TheVariants.{Ok, Err}
 use Rattle.algebra.specs.Sum.{sum_below}
 use Rattle.exact.specs.Div.{floor_div, ceil_div}
 use Rattle.range.specs.declared.Range.{Range}
@@ -10,12 +12,12 @@ use Rattle.range.specs.Sums.{at}
 use Rattle.rules.specs.declared.Refusal.TheVariants.{RangeCount, BadRange}
 use Rattle.rules.specs.Rate.{pairs}
 use Rattle.engine.specs.declared.Engine.{Engine}
-use Rattle.engine.specs.declared.Outcome.{Outcome}
-use Rattle.engine.specs.declared.Outcome.TheVariants.{Accepted, Refused}
+use Rattle.engine.specs.InFull.{Outcome}
+use Rattle.engine.specs.InFull.{Accepted, Refused}
 use Rattle.engine.specs.declared.Refusal.{Refusal}
 use Rattle.engine.specs.declared.Refusal.TheVariants.{Rate}
 use Rattle.engine.specs.Engine.{rated_of}
-use Rattle.increments.specs.declared.Difference.{Difference}
+use Rattle.increments.specs.InFull.{Difference}
 
 -- ════ the boats ════
 
@@ -65,6 +67,11 @@ difference_of n g bs = record {
 -- a refusal: both ends are 0
 abbrev pub refused_with : Refusal → Difference
 refused_with r = record { outcome = Refused r; low = pos 0; high = pos 0 }
+
+-- the code's answer in full: the two ends
+abbrev pub in_full : Result Range Refusal → Difference
+in_full (Ok r) = record { outcome = Accepted; low = r.low; high = r.high }
+in_full (Err r) = refused_with r
 
 -- 9 at the lowest factor with a boat outside
 abbrev pub unless_outside : ℕ → Difference → Difference

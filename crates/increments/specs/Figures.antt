@@ -21,10 +21,10 @@ use Rattle.rules.specs.Table.{factor_row, add_row, addc_row, mulc_row, mul_row, 
 use Rattle.rules.specs.Run.{row_of, inverts_zero, within, run_ops, factor_lines, bent_in, lines_of}
 use Rattle.rules.specs.Rate.{last, limits_of, no_limits, first_bad, rate_ranges, rate_of}
 use Rattle.rules.specs.Figures.{−}
-use Rattle.engine.specs.declared.Outcome.TheVariants.{Accepted}
+use Rattle.engine.specs.InFull.{Accepted}
 use Rattle.engine.specs.declared.Refusal.TheVariants.{Rate}
 use Rattle.engine.specs.Engine.{rated_of}
-use Rattle.increments.specs.declared.Difference.{Difference}
+use Rattle.increments.specs.InFull.{Difference}
 use Rattle.increments.specs.Call.{holds, outside_from, first_outside, least_sum, greatest_sum, refused_with, boats_of, sisters_of}
 
 pub record Figure : Type 0 where

@@ -13,11 +13,11 @@ use Rattle.rules.specs.Exact.{Point, Jet, premium_of}
 use Rattle.rules.specs.Promises.{Inside}
 use Rattle.rules.specs.Sisters.{least_difference, greatest_difference}
 use Rattle.engine.specs.declared.Engine.{Engine}
-use Rattle.engine.specs.declared.Outcome.TheVariants.{Accepted, Refused}
+use Rattle.engine.specs.InFull.{Accepted, Refused}
 use Rattle.engine.specs.declared.Refusal.{Refusal}
 use Rattle.engine.specs.declared.Refusal.TheVariants.{Rate}
 use Rattle.engine.specs.Engine.{number_of, rated_of}
-use Rattle.increments.specs.declared.Difference.{Difference}
+use Rattle.increments.specs.InFull.{Difference}
 use Rattle.increments.specs.Call.{first, second, sisters_of}
 
 -- ════ the boats as points ════

@@ -11,8 +11,7 @@ use lib.ListN.{length, take, drop}
 use lib.Seq.{take_at}
 use borrow.Author.Tests.{le-leb, leb-true, leb-false}
 use Rattle.codelist.specs.declared.Codelist.{Codelist}
-use Rattle.codelist.specs.declared.Loaded.{Loaded}
-use Rattle.codelist.specs.declared.Outcome as loading
+use Rattle.codelist.specs.InFull as loading
 use Rattle.codelist.specs.declared.Refusal as load
 use Rattle.codelist.specs.Codelist.{WellFormed}
 use Rattle.codelist.specs.Load.{load_of, accepted}
@@ -21,11 +20,10 @@ use Rattle.codelist.specs.Text.{YearField, absent, year_of}
 use Rattle.codelist.specs.Write.{year2016, text_with, text_of}
 use Rattle.codelist.proofs.Accepted.{accepted-exactly}
 use Rattle.codelist.proofs.Years.{own-text}
-use Rattle.liveness.specs.declared.Outcome.{Outcome}
-use Rattle.liveness.specs.declared.Outcome.TheVariants.{Written, Refused}
+use Rattle.liveness.specs.InFull.{Outcome, Written, Refused}
 use Rattle.liveness.specs.declared.Refusal.TheVariants.{Load, Short}
 use Rattle.liveness.specs.Tidied.{tidied}
-use Rattle.liveness.specs.Tidy.{fitted, after_load, tidy_of, buffer_after, buffer_of}
+use Rattle.liveness.specs.Tidy.{after_load, tidy_of, buffer_of}
 use Rattle.liveness.specs.Refusals.{Wrote}
 use Rattle.liveness.proofs.Tidied.{tidied-fine}
 use Rattle.liveness.proofs.Again.{idempotent}
@@ -37,7 +35,7 @@ loads c w = (accepted-exactly.where-written (text_of (tidied c)) (tidied c)).1 (
 pub data Answer (s : List ℕ) (k : ℕ) : Outcome → Type 0 where
   written : (c : Codelist) → load_of s ≡ accepted c → length (text_of (tidied c)) ≤ k → Answer s k (Written (length (text_of (tidied c))))
   short : (c : Codelist) → load_of s ≡ accepted c → k < length (text_of (tidied c)) → Answer s k (Refused Short)
-  not-loaded : (r : load.Refusal) → (load_of s).outcome ≡ loading.TheVariants.Refused r → Answer s k (Refused (Load r))
+  not-loaded : (r : load.Refusal) → (load_of s).outcome ≡ loading.Refused r → Answer s k (Refused (Load r))
 
 pub answer : (s : List ℕ) (k : ℕ) → Answer s k (tidy_of s k)
 unfolding tidy_of
@@ -49,10 +47,10 @@ answer s k = go (load_of s).outcome refl
     fits c false l e = short c l (leb-false (length (text_of (tidied c))) k e)
 
     go : (o : loading.Outcome) → (load_of s).outcome ≡ o → Answer s k (after_load o (load_of s).codelist k)
-    go loading.TheVariants.Accepted e =
+    go loading.Accepted e =
         let c = (load_of s).codelist in
         fits c (leb (length (text_of (tidied c))) k) (ap (λ (o : loading.Outcome). record { outcome = o; codelist = c }) e) refl
-    go (loading.TheVariants.Refused r) e = not-loaded r e
+    go (loading.Refused r) e = not-loaded r e
 
 -- ---- where it wrote
 wrote : (s : List ℕ) (k n : ℕ) → tidy_of s k ≡ Written n → Wrote s k n
@@ -119,16 +117,6 @@ year-unnamed c w h b = same-call (text_with year2016 c) (text_with absent c) (lo
     load_is : (f : YearField) → year_of f ≡ some c.year → load_of (text_with f c) ≡ accepted c
     load_is f e = (accepted-exactly.where-written (text_with f c) c).1 (w, record { field = f; names = e; text = refl })
 
--- ---- by what loading gave, as the code has it
-module _ (s : List ℕ) (x : Loaded) (e : x ≡ load_of s) where
-  pub after-accepted : (k : ℕ) → x.outcome ≡ loading.TheVariants.Accepted → fitted (text_of (tidied x.codelist)) k ≡ tidy_of s k
-  unfolding tidy_of
-  after-accepted k h = rw (← e, h)
-
-  pub after-refused : (k : ℕ) (r : load.Refusal) → x.outcome ≡ loading.TheVariants.Refused r → Refused (Load r) ≡ tidy_of s k
-  unfolding tidy_of
-  after-refused k r h = rw (← e, h)
-
-  pub buffer-is : (b : List ℕ) (o : Outcome) → o ≡ tidy_of s (length b) → buffer_after o (text_of (tidied x.codelist)) b ≡ buffer_of s b
-  unfolding buffer_of
-  buffer-is b o h = rw (← e, ← h)
+-- ---- what is loaded can be tidied
+pub loaded_fine : (s : List ℕ) (c : Codelist) → accepted c ≡ load_of s → WellFormed c
+loaded_fine s c e = ((accepted-exactly.where-written s c).0 (sym e)).0

@@ -7,8 +7,8 @@ use lib.IntN.{ℤ}
 use Rattle.codelist.specs.declared.Codelist.{Codelist}
 use Rattle.codelist.specs.Codelist.{WellFormed}
 use Rattle.rules.specs.declared.Limits.{Limits}
-use Rattle.rules.specs.declared.Outcome as rating
-use Rattle.rules.specs.declared.Rating.{Rating}
+use Rattle.rules.specs.InFull as rating
+use Rattle.rules.specs.InFull.{Rating}
 use Rattle.rules.specs.declared.Refusal.{Refusal}
 use Rattle.rules.specs.declared.Refusal.TheVariants.{NoCodelist, RangeCount, BadRange, Divisor, Overflow}
 use Rattle.rules.specs.Rate.{rate_of, rated, refused}
@@ -22,7 +22,7 @@ use Rattle.liveness.proofs.Used.{computed}
 use Rattle.liveness.proofs.Same.{same-rating}
 
 -- a refused rating has no limits
-refused-is : (c : Codelist) (xs : List ℤ) (r : Refusal) → (rate_of c xs).outcome ≡ rating.TheVariants.Refused r → rate_of c xs ≡ refused r
+refused-is : (c : Codelist) (xs : List ℤ) (r : Refusal) → (rate_of c xs).outcome ≡ rating.Refused r → rate_of c xs ≡ refused r
 unfolding rated_of
 refused-is c xs r h =
     ap₂ (λ (o : rating.Outcome) (l : Limits). record { outcome = o; limits = l }) h
@@ -51,11 +51,11 @@ module _ (c : Codelist) (w : WellFormed c) where
       moved = rating_at (position (kept c))
 
       go : (o : rating.Outcome) → (rate_of c xs).outcome ≡ o → (r : Refusal) × ((rate_of c xs ≡ refused r) × (¬ AtUsed c r))
-      go rating.TheVariants.Rated h =
+      go rating.Rated h =
           let e : rate_of c xs ≡ rated (rate_of c xs).limits
           = ap (λ (o : rating.Outcome). record { outcome = o; limits = (rate_of c xs).limits }) h in
           absurd (d ((same-rating c w xs).result (rate_of c xs).limits e ∙ sym (ap moved e)))
-      go (rating.TheVariants.Refused r) h = refusal (at-used r)
+      go (rating.Refused r) h = refusal (at-used r)
         where
           e : rate_of c xs ≡ refused r
           e = refused-is c xs r h

@@ -6,19 +6,16 @@ use native.Mathlib.Omega.{arith}
 use lib.IntN.{ℤ}
 use lib.ListN.{length, take}
 use Rattle.codelist.specs.declared.Codelist.{Codelist}
-use Rattle.codelist.specs.declared.Loaded.{Loaded}
+use Rattle.codelist.specs.InFull.{Loaded}
 use Rattle.codelist.specs.Codelist.{WellFormed}
 use Rattle.codelist.specs.Load.{load_of, accepted}
 use Rattle.codelist.specs.Write.{text_of}
-use Rattle.rules.specs.declared.Rating as rules
-use Rattle.rules.specs.declared.Outcome as rating
+use Rattle.rules.specs.InFull as rules
 use Rattle.rules.specs.Rate.{rate_of, rated}
 use Rattle.engine.specs.declared.Engine.{Engine}
-use Rattle.engine.specs.declared.Loading.{Loading}
-use Rattle.engine.specs.declared.Rating.{Rating}
-use Rattle.engine.specs.declared.Outcome.TheVariants.{Accepted}
+use Rattle.engine.specs.InFull.{Loading, Rating, Accepted}
 use Rattle.engine.specs.Engine.{loaded, loaded_of, outcome_of, rated_of}
-use Rattle.liveness.specs.declared.Outcome.TheVariants.{Written}
+use Rattle.liveness.specs.InFull.{Written}
 use Rattle.liveness.specs.Tidied.{tidied}
 use Rattle.liveness.specs.Tidy.{tidy_of, buffer_of}
 use Rattle.liveness.proofs.Same.{same-rating}
@@ -34,11 +31,11 @@ load_is e s c h = ap (λ (x : Loaded). loaded e x.outcome x.codelist) h
 
 -- an accepted rating is limits
 rated-is : (x : rules.Rating) → outcome_of x.outcome ≡ Accepted → x ≡ rated x.limits
-rated-is x h = ap (λ (o : rating.Outcome). record { outcome = o; limits = x.limits }) (go x.outcome h)
+rated-is x h = ap (λ (o : rules.Outcome). record { outcome = o; limits = x.limits }) (go x.outcome h)
   where
-    go : (o : rating.Outcome) → outcome_of o ≡ Accepted → o ≡ rating.TheVariants.Rated
-    go rating.TheVariants.Rated h = refl
-    go (rating.TheVariants.Refused r) h = let z : ◌≡◌ {A = ℕ} 0 1 = cc in absurd (omega arith)
+    go : (o : rules.Outcome) → outcome_of o ≡ Accepted → o ≡ rules.Rated
+    go rules.Rated h = refl
+    go (rules.Refused r) h = let z : ◌≡◌ {A = ℕ} 0 1 = cc in absurd (omega arith)
 
 same-rated : (c : Codelist) → WellFormed c → (xs : List ℤ) → (rated_of (record { codelist = c }) xs).outcome ≡ Accepted
     → rated_of (record { codelist = tidied c }) xs ≡ rated_of (record { codelist = c }) xs

@@ -9,9 +9,9 @@ use lib.ListN.{length, take, drop}
 use lib.Seq.{drop_at}
 use Rattle.codelist.specs.declared.Codelist.{Codelist}
 use Rattle.codelist.specs.declared.Entry.{Entry}
-use Rattle.codelist.specs.declared.Loaded.{Loaded}
+use Rattle.codelist.specs.InFull.{Loaded}
 use Rattle.codelist.specs.declared.Op.{Op}
-use Rattle.codelist.specs.declared.Outcome as loading
+use Rattle.codelist.specs.InFull as loading
 use Rattle.codelist.specs.Load.{load_of}
 use Rattle.codelist.specs.Write.{text_of}
 use Rattle.codelist.specs.Exchange as exchange
@@ -19,8 +19,7 @@ use Rattle.codelist.specs.Exchange.{OneByOne, none, more, ExchangedOp, add, mul,
 use Rattle.codelist.proofs.Accepted.{accepted-well-formed}
 use Rattle.codelist.proofs.Exchange.{codelist-alike, same_length, exchange-load, exchange-write}
 use Rattle.rules.proofs.Exchange.{operations-exchanged}
-use Rattle.liveness.specs.declared.Outcome.{Outcome}
-use Rattle.liveness.specs.declared.Outcome.TheVariants.{Written, Refused}
+use Rattle.liveness.specs.InFull.{Outcome, Written, Refused}
 use Rattle.liveness.specs.Used.{refers_to, used_by, used}
 use Rattle.liveness.specs.Tidied.{kept, position, renumbered, tidy_ops, tidied}
 use Rattle.liveness.specs.Tidy.{after_load, tidy_of, printed, buffer_of, answer_of}
@@ -73,7 +72,7 @@ abbrev tidy_text : List ℕ → List ℕ
 tidy_text s = text_of (tidied (load_of s).codelist)
 
 module _ (s t : List ℕ) (h : ExchangedText s t) where
-  texts-alike : (load_of s).outcome ≡ loading.TheVariants.Accepted → ExchangedText (tidy_text s) (tidy_text t)
+  texts-alike : (load_of s).outcome ≡ loading.Accepted → ExchangedText (tidy_text s) (tidy_text t)
   texts-alike e =
       exchange-write (tidied (load_of s).codelist) (tidied (load_of t).codelist) (tidied-fine (load_of s).codelist (accepted-well-formed s e))
       (tidied-alike (exchange-load s t h).codelist)
@@ -83,8 +82,8 @@ module _ (s t : List ℕ) (h : ExchangedText s t) where
   answer-alike k = rw (← (exchange-load s t h).outcome) (go (load_of s).outcome refl)
     where
       go : (o : loading.Outcome) → (load_of s).outcome ≡ o → after_load o (load_of s).codelist k ≡ after_load o (load_of t).codelist k
-      go loading.TheVariants.Accepted e = rw (same_length (texts-alike e))
-      go (loading.TheVariants.Refused r) e = refl
+      go loading.Accepted e = rw (same_length (texts-alike e))
+      go (loading.Refused r) e = refl
 
   -- where the call writes, the sheet was accepted
   wrote-alike : (k n : ℕ) → tidy_of s k ≡ Written n → ExchangedText (tidy_text s) (tidy_text t)

@@ -6,18 +6,17 @@ use mathlib.Core.Path.{◌≡◌, refl, sym, ap, ◌∙◌}
 use native.Mathlib.Omega.{arith}
 use lib.ListN.{length}
 use Rattle.codelist.specs.declared.Codelist.{Codelist}
-use Rattle.codelist.specs.declared.Loaded.{Loaded}
-use Rattle.codelist.specs.declared.Outcome as loading
+use Rattle.codelist.specs.InFull.{Loaded}
+use Rattle.codelist.specs.InFull as loading
 use Rattle.codelist.specs.declared.Refusal as codelist
 use Rattle.codelist.specs.Load as Load
 use Rattle.codelist.specs.Write.{text_of}
-use Rattle.engine.specs.declared.Outcome as engine
+use Rattle.engine.specs.InFull as engine
 use Rattle.engine.specs.declared.Refusal as call
 use Rattle.engine.specs.Engine.{empty_engine, loaded, loaded_of}
 use Rattle.engine.specs.Refusals as Engine
 use Rattle.engine.proofs.Demands.{demands}
-use Rattle.liveness.specs.declared.Outcome.{Outcome}
-use Rattle.liveness.specs.declared.Outcome.TheVariants.{Refused}
+use Rattle.liveness.specs.InFull.{Outcome, Refused}
 use Rattle.liveness.specs.declared.Refusal as refusal
 use Rattle.liveness.specs.declared.Refusal.{Refusal}
 use Rattle.liveness.specs.declared.Refusal.TheVariants.{Short}
@@ -33,12 +32,12 @@ module _ (s : List ℕ) where
   abbrev call-outcome : engine.Outcome
   call-outcome = (loaded_of empty_engine s).outcome
 
-  load-accepted : (c : Codelist) → Load.load_of s ≡ Load.accepted c → call-outcome ≡ engine.TheVariants.Accepted
+  load-accepted : (c : Codelist) → Load.load_of s ≡ Load.accepted c → call-outcome ≡ engine.Accepted
   unfolding loaded_of
   load-accepted c l = ap (λ (x : Loaded). (loaded empty_engine x.outcome x.codelist).outcome) l
 
-  load-refused : (r : codelist.Refusal) → (Load.load_of s).outcome ≡ loading.TheVariants.Refused r
-      → call-outcome ≡ engine.TheVariants.Refused (call.TheVariants.Load r)
+  load-refused : (r : codelist.Refusal) → (Load.load_of s).outcome ≡ loading.Refused r
+      → call-outcome ≡ engine.Refused (call.TheVariants.Load r)
   unfolding loaded_of
   load-refused r e = ap (λ (o : loading.Outcome). (loaded empty_engine o (Load.load_of s).codelist).outcome) e
 

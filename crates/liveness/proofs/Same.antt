@@ -20,7 +20,7 @@ use Rattle.range.specs.declared.Range.{Range}
 use Rattle.range.specs.Arithmetic.{holds_zero}
 use Rattle.rules.specs.declared.Line.{Line}
 use Rattle.rules.specs.declared.Limits.{Limits}
-use Rattle.rules.specs.declared.Rating.{Rating}
+use Rattle.rules.specs.InFull.{Rating}
 use Rattle.rules.specs.declared.Refusal.{Refusal}
 use Rattle.rules.specs.declared.Refusal.TheVariants.{RangeCount, BadRange, Divisor, Overflow}
 use Rattle.rules.specs.Table.{Row, add_row, addc_row, mulc_row, mul_row, pow_row, inv_row, line_of}

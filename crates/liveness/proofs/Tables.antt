@@ -6,10 +6,10 @@ use mathlib.Core.Path.{◌≡◌, refl, sym, ap, ap₂, ◌∙◌}
 use native.Mathlib.Decide.{ℕ_discrete}
 use native.Mathlib.Numerals.{add-one}
 use native.Mathlib.Omega.{arith}
-use lib.Dec.{eqb}
+use lib.Dec.{eqb, leb}
 use lib.ListN.{length, get_or, drop, set, replicate, length-set, get_or-replicate, drop_of_length-le}
-use lib.Seq.{drop-cons, get_or-set_same, get_or-set_other, get_or-take}
-use borrow.Author.Tests.{eq-eqb, ne_eqb}
+use lib.Seq.{drop-cons, set_out, get_or-set_same, get_or-set_other, get_or-take}
+use borrow.Author.Tests.{eq-eqb, ne_eqb, le-leb, lt-leb}
 use Rattle.codelist.specs.declared.Codelist.{Codelist}
 use Rattle.codelist.specs.declared.Entry.{Entry}
 use Rattle.codelist.specs.declared.Op.{Op}
@@ -18,11 +18,15 @@ use Rattle.codelist.specs.Codelist.{WellFormed}
 use Rattle.rules.specs.Run.{operations}
 use Rattle.liveness.specs.Used.{refers_to, used_by, used}
 use Rattle.liveness.specs.Tidied.{position}
-use Rattle.liveness.specs.Views.{Marks, Numbers, mark, marked}
+use Rattle.liveness.specs.Views.{Marks, mark, marked}
 use Rattle.liveness.proofs.Positions.{position-kept, position-dropped}
 use Rattle.liveness.proofs.Used.{counted}
 
 -- ════ the marks ════
+
+-- of a line that the array does not hold
+pub mark_out : (xs : List Bool) (i : ℕ) → length xs ≤ i → mark xs i ≡ xs
+mark_out xs i h = set_out xs i true h
 
 marks-same : (f g : ℕ → Bool) (xs : List Bool) → ((i : ℕ) → f i ≡ g i) → Marks f xs → Marks g xs
 marks-same f g xs h m = record { at = λ i p. m.at i p ∙ h i }
@@ -81,9 +85,12 @@ module _ (c : Codelist) (w : WellFormed c) where
         (record { at = λ i p. get_or-replicate 65 i false false (omega arith) }));
   }
 
-  pub seen_all : (xs : List Bool) → Seen c xs 0 → Marks (used c) xs
+  pub seen_all : (xs : List Bool) (k : ℕ) → Seen c xs k → k ≤ 0 → Marks (used c) xs
   unfolding used
-  seen_all xs s = let a : c.factors + 0 ≡ c.factors = omega arith in rw a at s.marks
+  seen_all xs k s h =
+      let z : k ≡ 0 = omega arith in
+      let a : c.factors + 0 ≡ c.factors = omega arith in
+      rw (z, a) at s.marks
 
   -- one operation, which is line factors + k, more
   module _ (xs : List Bool) (k : ℕ) (s : Seen c xs k) (h : 0 < k) (d : Entry) where
@@ -103,64 +110,84 @@ module _ (c : Codelist) (w : WellFormed c) where
         ∙ ap (λ (x : Entry). used_from c k i || (used_from c k line && refers_to x.op i))
         (get_or-take c.count c.ops (k - 1) d (omega (arith, s.most)))
 
-    pub line_at : get_or xs line false ≡ used_from c k line
+    line_at : get_or xs line false ≡ used_from c k line
     line_at = s.marks.at line (omega (arith, w.few, s.most))
 
-    pub seen-used : (ys : List Bool) → ys ≡ marked xs op → get_or xs line false ≡ true → Seen c ys (k - 1)
-    seen-used ys p e = record {
-      whole = ap length p ∙ marked-length xs op s.whole;
-      most = omega (arith, s.most);
-      marks = rw p
-          (marks-same _ _ _ (λ i. sym (seen_step i ∙ rw (sym line_at ∙ e))) (op-marks (used_from c k) xs op s.whole s.marks));
-    }
+    module _ (l : ℕ) (p : l ≡ line) where
+      pub seen_used : get_or xs l false ≡ true → Seen c (marked xs op) (k - 1)
+      seen_used e = record {
+        whole = marked-length xs op s.whole;
+        most = omega (arith, s.most);
+        marks = marks-same _ _ _ (λ i. sym (seen_step i ∙ rw (sym line_at ∙ rw p at e))) (op-marks (used_from c k) xs op s.whole s.marks);
+      }
 
-    pub seen-unused : get_or xs line false ≡ false → Seen c xs (k - 1)
-    seen-unused e = record {
-      whole = s.whole;
-      most = omega (arith, s.most);
-      marks = marks-same _ _ _ (λ i. sym (seen_step i ∙ rw (sym line_at ∙ e, or-false))) s.marks;
-    }
+      pub seen_unused : get_or xs l false ≡ false → Seen c xs (k - 1)
+      seen_unused e = record {
+        whole = s.whole;
+        most = omega (arith, s.most);
+        marks = marks-same _ _ _ (λ i. sym (seen_step i ∙ rw (sym line_at ∙ rw p at e, or-false))) s.marks;
+      }
 
 -- ════ the new numbers ════
 
-module _ (k : ℕ → Bool) where
-  -- the numbers of the first i lines
+-- line i is kept
+abbrev pub keeps : ℕ → List Bool → ℕ → Bool
+keeps n used i = leb i n || get_or used i false
+
+module _ (n : ℕ) (used : List Bool) where
+  abbrev k : ℕ → Bool
+  k = keeps n used
+
+  -- the numbers of the lines before line i
   pub record Counted (ns : List ℕ) (next i : ℕ) : Type 0 where
     pub whole : length ns ≡ 65
-    pub most : i ≤ 64
-    pub number : next ≡ position k i
-    pub before : (j : ℕ) → j ≤ i → get_or ns j 0 ≡ position k j
+    pub least : 1 ≤ i
+    pub most : i ≤ 65
+    pub fewer : next < i
+    pub number : next ≡ position k (i - 1)
+    pub before : (j : ℕ) → j < i → get_or ns j 0 ≡ position k j
 
-  pub counted_start : Counted (replicate 65 0) 0 0
+  pub counted_start : Counted (replicate 65 0) 0 1
   unfolding position
   counted_start = record {
     whole = refl;
+    least = omega arith;
     most = omega arith;
+    fewer = omega arith;
     number = refl;
     before = λ j h. let z : j ≡ 0 = omega arith in rw z;
   }
 
-  pub counted_next : (ns : List ℕ) (next i : ℕ) → Counted ns next i → i < 64 → (n : ℕ) → n ≡ position k (i + 1)
-      → Counted (set ns (i + 1) n) n (i + 1)
-  counted_next ns next i c h n e = record {
-    whole = length-set ns (i + 1) n ∙ c.whole;
-    most = omega arith;
-    number = e;
-    before = λ j p. go j p (ℕ_discrete j (i + 1));
-  }
-    where
-      go : (j : ℕ) → j ≤ i + 1 → Dec (j ≡ i + 1) → get_or (set ns (i + 1) n) j 0 ≡ position k j
-      go j p (yes y) =
-          ap (get_or (set ns (i + 1) n) _) refl
-          ∙ rw y (get_or-set_same ns (i + 1) n 0 (omega (arith, c.whole)) ∙ e)
-      go j p (no y) = get_or-set_other ns (i + 1) j n 0 y ∙ c.before j (omega arith)
+  module _ (ns : List ℕ) (next i : ℕ) (c : Counted ns next i) (h : i < 65) where
+    step : (m : ℕ) → m ≤ i → m ≡ position k i → Counted (set ns i m) m (i + 1)
+    step m l e = record {
+      whole = length-set ns i m ∙ c.whole;
+      least = omega arith;
+      most = omega arith;
+      fewer = omega arith;
+      number = e ∙ (let p : i ≡ i + 1 - 1 = omega arith in ap (position k) p);
+      before = λ j p. go j p (ℕ_discrete j i);
+    }
+      where
+        go : (j : ℕ) → j < i + 1 → Dec (j ≡ i) → get_or (set ns i m) j 0 ≡ position k j
+        go j p (yes y) = ap (λ (x : ℕ). get_or (set ns i m) x 0) y ∙ get_or-set_same ns i m 0 (omega (arith, c.whole)) ∙ e ∙ ap (position k) (sym y)
+        go j p (no y) = get_or-set_other ns i j m 0 y ∙ c.before j (omega arith)
 
-  pub counted-all : (ns : List ℕ) (next i : ℕ) → Counted ns next i → 64 ≤ i → Numbers (position k) ns
-  counted-all ns next i c h = record { at = λ j p. c.before j (omega (arith, c.most)) }
+    before_i : suc (i - 1) ≡ i
+    before_i = omega (arith, c.least)
 
-  -- the next number by the test
-  pub next-kept : (i next : ℕ) → next ≡ position k i → k (i + 1) ≡ true → next + 1 ≡ position k (i + 1)
-  next-kept i next e g = rw (add-one next, add-one i) (ap suc e ∙ sym (position-kept k i (rw add-one at g)))
+    kept : k i ≡ true → Counted (set ns i (next + 1)) (next + 1) (i + 1)
+    kept g =
+        step (next + 1) (omega (arith, c.fewer))
+        (rw (add-one next) (ap suc c.number ∙ sym (position-kept k (i - 1) (ap k before_i ∙ g)) ∙ ap (position k) before_i))
 
-  pub next-dropped : (i next : ℕ) → next ≡ position k i → k (i + 1) ≡ false → next ≡ position k (i + 1)
-  next-dropped i next e g = rw (add-one i) (e ∙ sym (position-dropped k i (rw add-one at g)))
+    pub counted_factor : i ≤ n → Counted (set ns i (next + 1)) (next + 1) (i + 1)
+    counted_factor l = kept (rw (le-leb i n l))
+
+    pub counted_used : get_or used i false ≡ true → Counted (set ns i (next + 1)) (next + 1) (i + 1)
+    counted_used g = kept (rw (g, or-true))
+
+    pub counted_unused : n < i → get_or used i false ≡ false → Counted (set ns i next) next (i + 1)
+    counted_unused l g =
+        step next (omega (arith, c.fewer))
+        (c.number ∙ sym (position-dropped k (i - 1) (ap k before_i ∙ rw (lt-leb i n l, g))) ∙ ap (position k) before_i)

@@ -2,36 +2,34 @@
 use Prim.Native.Nat.{ℕ, suc, ◌+◌, ◌-◌, ◌≤◌, ◌<◌}
 use mathlib.Core.Bool.{Bool, true, false, ◌||◌}
 use mathlib.Core.List.{List, [], ◌∷◌, ◌++◌}
-use mathlib.Core.Path.{◌≡◌, sym, ap, ap₂, subst, ◌∙◌}
+use mathlib.Core.Path.{◌≡◌, refl, sym, ap, ap₂, subst, ◌∙◌}
 use native.Mathlib.Numerals.{add-one}
 use native.Mathlib.Omega.{arith}
 use lib.Dec.{leb}
-use lib.ListN.{length, get_or, take, drop, drop_of_length-le}
+use lib.ListN.{length, get_or, take, drop, replicate, drop_of_length-le}
 use lib.Seq.{drop-cons, get_or-take, take_at}
-use borrow.Author.Tests.{lt-leb, le-leb}
+use borrow.Author.Tests.{lt-leb}
 use Rattle.codelist.specs.declared.Codelist.{Codelist}
 use Rattle.codelist.specs.declared.Entry.{Entry}
 use Rattle.codelist.specs.declared.Op.{Op}
 use Rattle.codelist.specs.declared.Op.TheVariants.{Add, Mul, AddC, MulC, Pow, Inv}
 use Rattle.codelist.specs.Codelist.{WellFormed, WellFormedOp}
-use Rattle.codelist.specs.Text.{line_text}
-use Rattle.codelist.specs.Write.{text_line_of, ops_text, text_of}
+use Rattle.codelist.specs.Text.{first_text, line_text}
+use Rattle.codelist.specs.Write.{plain, field_of, text_line_of, ops_text, text_of}
 use Rattle.codelist.proofs.Lengths.{text-length}
 use Rattle.codelist.proofs.Years.{own-text}
 use Rattle.rules.specs.Run.{operations}
 use Rattle.writer.specs.Lent.{Lent, lent, put_text}
 use Rattle.writer.proofs.Writing.{filled, put_text-append}
-use Rattle.liveness.specs.declared.Outcome.TheVariants.{Written, Refused}
-use Rattle.liveness.specs.declared.Refusal.TheVariants.{Short}
 use Rattle.liveness.specs.Used.{used}
 use Rattle.liveness.specs.Tidied.{kept, position, renumbered, tidy_ops, tidied_ops, tidied}
-use Rattle.liveness.specs.Tidy.{fitted}
 use Rattle.liveness.specs.Views.{Marks, Numbers, Ready, number_at, FewDigits}
 use Rattle.liveness.proofs.References.{earlier, renumbered-alike}
 use Rattle.liveness.proofs.Positions.{position-alike}
 use Rattle.liveness.proofs.Operations.{each_at, tidy-none, tidy-kept, tidy-dropped}
 use Rattle.liveness.proofs.Used.{kept-used, counted, fine}
 use Rattle.liveness.proofs.Tidied.{tidied-fine}
+use Rattle.liveness.proofs.Lengths.{text-is}
 
 -- a piece is put, and the rest is left
 pub turned : (o p : Lent) (s t u : List ℕ) → p ≡ put_text o s → u ≡ s ++ t → put_text p t ≡ put_text o u
@@ -50,10 +48,18 @@ few-digits e f (Inv j) w = tt
 abbrev pub left : Codelist → ℕ → List ℕ
 left c k = ops_text (tidy_ops (kept c) (c.factors + k) (drop k (operations c)))
 
-pub left-start : (c : Codelist) → left c 0 ≡ ops_text (tidied_ops c)
+left-start : (c : Codelist) → left c 0 ≡ ops_text (tidied_ops c)
 left-start c = let a : c.factors + 0 ≡ c.factors = omega arith in rw a
 
-pub left_end : (c : Codelist) → WellFormed c → (k : ℕ) → c.count ≤ k → left c k ≡ []
+-- after the first line
+pub begun : (c : Codelist) (o p : Lent) → o ≡ lent (replicate 1266 0) 0 → p ≡ put_text o (first_text (plain c.factors) (field_of c.year))
+    → put_text p (left c 0) ≡ put_text (lent (replicate 1266 0) 0) (text_of (tidied c))
+begun c o p e f =
+    turned o p (first_text (plain c.factors) (field_of c.year)) (left c 0) (text_of (tidied c)) f
+    (text-is c ∙ ap (λ (t : List ℕ). first_text (plain c.factors) (field_of c.year) ++ t) (sym (left-start c)))
+    ∙ ap (λ (x : Lent). put_text x (text_of (tidied c))) e
+
+left_end : (c : Codelist) → WellFormed c → (k : ℕ) → c.count ≤ k → left c k ≡ []
 left_end c w k h =
     let none : length (operations c) ≤ k = omega (arith, counted c w) in
     ap (λ (os : List Entry). ops_text (tidy_ops (kept c) (c.factors + k) os)) (drop_of_length-le (operations c) none)
@@ -127,30 +133,16 @@ module _ (c : Codelist) (marks : List Bool) (ns : List ℕ) (r : Ready c marks n
       ∙ ap ops_text (tidy-dropped (kept c) (c.factors + k) (get_or c.ops k d) (drop (suc k) (operations c)) (is-dropped g))
       ∙ after
 
--- ---- the whole text in an array of 1,266 bytes
-pub record Fits (t b : List ℕ) (n : ℕ) : Type 0 where
-  pub long : n ≡ length t
-  pub front : take n b ≡ t
-
+-- ---- the whole text, in 1,266 bytes
 module _ (c : Codelist) (w : WellFormed c) where
-  pub text-fits : length (text_of (tidied c)) ≤ 1266
+  text-fits : length (text_of (tidied c)) ≤ 1266
   text-fits = text-length (tidied c) (tidied-fine c w) (text_of (tidied c)) (own-text (tidied c))
 
-  pub in_array : (a b : List ℕ) (n : ℕ) → length a ≡ 1266 → lent b n ≡ put_text (lent a 0) (text_of (tidied c)) → Fits (text_of (tidied c)) b n
-  in_array a b n l e =
+  pub whole : (o : Lent) (k : ℕ) → c.count ≤ k → put_text o (left c k) ≡ put_text (lent (replicate 1266 0) 0) (text_of (tidied c))
+      → take o.at o.bytes ≡ text_of (tidied c)
+  unfolding put_text
+  whole o k h e =
       let t = text_of (tidied c) in
-      let f = e ∙ filled a t (omega (arith, text-fits)) in
-      let long : n ≡ length t = ap (λ (o : Lent). o.at) f in
-      let bytes : b ≡ t ++ drop (length t) a = ap (λ (o : Lent). o.bytes) f in
-      record { long = long; front = ap (take n) bytes ∙ take_at t (drop (length t) a) n (sym long) }
-
--- ---- the buffer
-module _ (t : List ℕ) (k n : ℕ) (e : n ≡ length t) where
-  pub no_room : k < n → Refused Short ≡ fitted t k
-  no_room h = rw (lt-leb (length t) k (omega arith))
-
-  pub has_room : n ≤ k → Written n ≡ fitted t k
-  has_room h = rw (le-leb (length t) k (omega arith)) (ap Written e)
-
-pub put_in : (t b d : List ℕ) (i n : ℕ) → n ≡ length t → n ≤ length b → lent d i ≡ put_text (lent b 0) t → d ≡ t ++ drop n b
-put_in t b d i n e h f = ap (λ (o : Lent). o.bytes) (f ∙ filled b t (omega arith)) ∙ ap (λ (m : ℕ). t ++ drop m b) (sym e)
+      let n : length t ≤ 1266 = text-fits in
+      let f = sym (ap (put_text o) (left_end c w k h)) ∙ e ∙ filled (replicate 1266 0) t n in
+      ap (λ (o : Lent). take o.at o.bytes) f ∙ take_at t (drop (length t) (replicate 1266 0)) (length t) refl

@@ -2,7 +2,7 @@
 -- sheet is tidied. A statement; the proof is in proofs/Exchange.antt.
 use Rattle.std.specs.Prelude.{ℕ, List, ◌≡◌, length, take, drop}
 use Rattle.codelist.specs.Exchange.{ExchangedText}
-use Rattle.liveness.specs.declared.Outcome.TheVariants.{Written}
+use Rattle.liveness.specs.InFull.{Written}
 use Rattle.liveness.specs.Tidy.{tidy_of, buffer_of, answer_of}
 
 pub record ExchangeTidy : Type 0 where

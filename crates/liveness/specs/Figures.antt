@@ -21,7 +21,7 @@ use Rattle.range.specs.Limit.{is_valid, both_valid, kept}
 use Rattle.range.specs.Arithmetic.{sum_of, neg_of, times_of, ends_product, product_of, ends_inverse, inverse_of, hull_of}
 use Rattle.range.specs.Power.{chain, ups_within, pow_above, pow_below, pow_across_even, pow_across_odd, pow_across, pow_by_sign, pow_of}
 use Rattle.range.specs.Sums.{has, sum_over, valid_below, ends_products, products_of, largest_square, square_sum, squares_of, root_sum, root_of}
-use Rattle.rules.specs.declared.Rating.{Rating}
+use Rattle.rules.specs.InFull.{Rating}
 use Rattle.rules.specs.declared.Refusal.TheVariants.{NoCodelist, Divisor}
 use Rattle.rules.specs.Sets.{apart, is_single, only}
 use Rattle.rules.specs.Table.{factor_row, add_row, addc_row, mulc_row, mul_row, pow_row, inv_row, line_of}
@@ -30,8 +30,7 @@ use Rattle.rules.specs.Run.{row_of, inverts_zero, run_ops, factor_lines, bent_in
 use Rattle.rules.specs.Rate.{last, limits_of, refused, first_bad, rate_ranges, rate_of}
 use Rattle.rules.specs.Figures.{◌to◌, slopes, limits}
 use Rattle.range.specs.Limit.{zero_range}
-use Rattle.liveness.specs.declared.Outcome.{Outcome}
-use Rattle.liveness.specs.declared.Outcome.TheVariants.{Written, Refused}
+use Rattle.liveness.specs.InFull.{Outcome, Written, Refused}
 use Rattle.liveness.specs.declared.Refusal.TheVariants.{Load, Short}
 use Rattle.liveness.specs.Used.{used_by, used}
 use Rattle.liveness.specs.Tidied as Tidied

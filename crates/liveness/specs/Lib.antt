@@ -2,6 +2,7 @@
 -- figures. Request 11: swapped references. Views serves the contracts of private functions.
 pub mod Used
 pub mod Tidied
+pub mod InFull
 pub mod Tidy
 pub mod Refusals
 pub mod Promises

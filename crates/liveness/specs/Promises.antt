@@ -8,16 +8,16 @@ use Rattle.codelist.specs.Load.{load_of, accepted}
 use Rattle.codelist.specs.Text.{absent}
 use Rattle.codelist.specs.Write.{year2016, text_with, text_of}
 use Rattle.rules.specs.declared.Limits.{Limits}
-use Rattle.rules.specs.declared.Outcome as rating
-use Rattle.rules.specs.declared.Rating.{Rating}
+use Rattle.rules.specs.InFull as rating
+use Rattle.rules.specs.InFull.{Rating}
 use Rattle.rules.specs.declared.Refusal as rules
 use Rattle.rules.specs.declared.Refusal.TheVariants.{NoCodelist, RangeCount, BadRange, Divisor, Overflow}
 use Rattle.rules.specs.Rate.{rate_of, rated, refused}
 use Rattle.rules.specs.Exact.{Point, premium_of}
 use Rattle.engine.specs.declared.Engine.{Engine}
-use Rattle.engine.specs.declared.Outcome.TheVariants.{Accepted}
+use Rattle.engine.specs.InFull.{Accepted}
 use Rattle.engine.specs.Engine.{loaded_of, rated_of}
-use Rattle.liveness.specs.declared.Outcome.TheVariants.{Written, Refused}
+use Rattle.liveness.specs.InFull.{Written, Refused}
 use Rattle.liveness.specs.declared.Refusal.{Refusal}
 use Rattle.liveness.specs.declared.Refusal.TheVariants.{Short}
 use Rattle.liveness.specs.Used.{Used, used, lines}
@@ -42,8 +42,8 @@ refusal_at f RangeCount = RangeCount
 refusal_at f (BadRange a) = BadRange a
 
 abbrev pub outcome_at : (ℕ → ℕ) → rating.Outcome → rating.Outcome
-outcome_at f rating.TheVariants.Rated = rating.TheVariants.Rated
-outcome_at f (rating.TheVariants.Refused r) = rating.TheVariants.Refused (refusal_at f r)
+outcome_at f rating.Rated = rating.Rated
+outcome_at f (rating.Refused r) = rating.Refused (refusal_at f r)
 
 abbrev pub rating_at : (ℕ → ℕ) → Rating → Rating
 rating_at f x = record { outcome = outcome_at f x.outcome; limits = x.limits }

@@ -4,8 +4,7 @@ use Rattle.codelist.specs.declared.Codelist.{Codelist}
 use Rattle.codelist.specs.Load.{load_of, accepted}
 use Rattle.codelist.specs.Write.{text_of}
 use Rattle.engine.specs.Refusals.{LoadTable}
-use Rattle.liveness.specs.declared.Outcome.{Outcome}
-use Rattle.liveness.specs.declared.Outcome.TheVariants.{Refused}
+use Rattle.liveness.specs.InFull.{Outcome, Refused}
 use Rattle.liveness.specs.declared.Refusal.{Refusal}
 use Rattle.liveness.specs.Tidied.{tidied}
 use Rattle.liveness.specs.Tidy.{number_of, place_of}

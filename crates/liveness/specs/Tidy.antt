@@ -1,13 +1,12 @@
 -- The call: "a writer that takes a sheet's bytes", "the text put in a lent buffer and its length returned", and refusal 13. 02, request 1.
-use Rattle.std.specs.Prelude.{ℕ, cond, List, [], ◌∷◌, ◌++◌, leb, length, drop, replicate}
+use Rattle.std.specs.Prelude.{ℕ, cond, List, [], ◌∷◌, ◌++◌, leb, length, drop, replicate, Result, Ok, Err}
 use Rattle.codelist.specs.declared.Codelist.{Codelist}
-use Rattle.codelist.specs.declared.Outcome as loading
+use Rattle.codelist.specs.InFull as loading
 use Rattle.codelist.specs.Load as Load
 use Rattle.codelist.specs.Write.{text_of}
 use Rattle.writer.specs.Lent.{Lent, lent, put_text}
 use Rattle.writer.specs.Texts.{refused_text}
-use Rattle.liveness.specs.declared.Outcome.{Outcome}
-use Rattle.liveness.specs.declared.Outcome.TheVariants.{Written, Refused}
+use Rattle.liveness.specs.InFull.{Outcome, Written, Refused}
 use Rattle.liveness.specs.declared.Refusal as refusal
 use Rattle.liveness.specs.declared.Refusal.{Refusal}
 use Rattle.liveness.specs.Tidied.{tidied}
@@ -25,14 +24,19 @@ place_of refusal.TheVariants.Short = 0
 abbrev pub tidy_numbers : List ℕ
 tidy_numbers = Load.load_numbers ++ (13 ∷ [])
 
+-- the code's answer in full
+abbrev pub in_full : Result ℕ Refusal → Outcome
+in_full (Ok n) = Written n
+in_full (Err r) = Refused r
+
 -- the text t for a buffer of k bytes: "too short" is shorter than t
 abbrev pub fitted : List ℕ → ℕ → Outcome
 fitted t k = cond (leb (length t) k) (Written (length t)) (Refused refusal.TheVariants.Short)
 
 -- what loading leads to
 abbrev pub after_load : loading.Outcome → Codelist → ℕ → Outcome
-after_load loading.TheVariants.Accepted c k = fitted (text_of (tidied c)) k
-after_load (loading.TheVariants.Refused r) c k = Refused (refusal.TheVariants.Load r)
+after_load loading.Accepted c k = fitted (text_of (tidied c)) k
+after_load (loading.Refused r) c k = Refused (refusal.TheVariants.Load r)
 
 -- THE ANSWER for the bytes s and a buffer of k bytes
 unfoldable pub tidy_of : List ℕ → ℕ → Outcome

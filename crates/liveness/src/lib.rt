@@ -4,18 +4,19 @@
 ghost use Rattle.std.specs.Prelude.{◌≡◌, length};
 ghost use Rattle.codelist.specs.Codelist.{WellFormed};
 ghost use Rattle.codelist.specs.Write.{text_of};
-ghost use Rattle.writer.specs.Lent.{lent};
 ghost use Rattle.liveness.specs.Tidied.{tidied};
-ghost use Rattle.liveness.specs.Tidy.{number_of, place_of, fitted, buffer_after, tidy_of, buffer_of, answered};
+ghost use Rattle.liveness.specs.Tidy.{number_of, place_of, fitted, buffer_after, tidy_of, buffer_of, answered, in_full};
+ghost use Rattle.liveness.specs.declared.Refusal.TheVariants.{Load};
 
 use codelist::Codelist;
+use writer::Text;
 
 mod marks; // marks.rt: which lines are used
 mod renumbering; // renumbering.rt: the new numbers
 mod writing; // writing.rt: the text
 
 // Why nothing is written.
-#[derive(Clone, Copy)]
+#[derive(Clone, Copy, PartialEq, Eq)]
 pub enum Refusal {
     // 1 to 7, 15 and 17: the sheet is refused.
     Load(codelist::Refusal),
@@ -23,11 +24,12 @@ pub enum Refusal {
     Short,
 }
 
-#[derive(Clone, Copy)]
-pub enum Outcome {
-    // so many bytes
-    Written(usize),
-    Refused(Refusal),
+impl From<codelist::Refusal> for Refusal {
+    ghost from_gives = { λ r e. e ≡ Load r };
+
+    fn from(r: codelist::Refusal) -> Self {
+        Self::Load(r)
+    }
 }
 
 impl Refusal {
@@ -52,61 +54,41 @@ impl Refusal {
     }
 }
 
-// The text of the tidied codelist in the buffer, where it has room. It is put together apart, in as many bytes as the longest sheet has, so that
-// nothing of the buffer is touched before its room is known.
-fn fit(buffer: &mut [u8], c: Codelist) -> Outcome
+// The text of the tidied codelist in the buffer, where it has room. It is put together apart, so that nothing of the buffer is touched before its
+// room is known.
+fn fit(buffer: &mut [u8], c: Codelist) -> Result<usize, Refusal>
     requires { WellFormed c }
-    ensures value { result ≡ fitted (text_of (tidied c)) (length buffer.old) }
-    ensures buffer_after { buffer.new ≡ buffer_after result (text_of (tidied c)) buffer.old }
+    ensures value { in_full result ≡ fitted (text_of (tidied c)) (length buffer.old) }
+    ensures buffer_after { buffer.new ≡ buffer_after (in_full result) (text_of (tidied c)) buffer.old }
 {
-    let mut text = [0u8; 1266];
-    let len = writing::tidied_text(&mut text, c);
-    if buffer.len() < len {
-        return Outcome::Refused(Refusal::Short);
+    let text = writing::tidied_text(c);
+    let bytes = text.as_slice();
+    if buffer.len() < bytes.len() {
+        return Err(Refusal::Short);
     }
-    writer::word(buffer, 0, &text[..len]);
-    Outcome::Written(len)
+    buffer[..bytes.len()].copy_from_slice(bytes);
+    Ok(bytes.len())
 }
 
-// Tidying (02, request 1): the sheet without dead lines, put into the buffer, or a refusal, and the buffer as it was.
-pub fn tidy(bytes: &[u8], buffer: &mut [u8]) -> Outcome
-    ensures value { result ≡ tidy_of bytes.now (length buffer.old) }
+// Tidying (02, request 1): the sheet without dead lines, put into the buffer, and how many bytes it has; or a refusal, and the buffer as it was.
+#[tactic(auto, unfolding(crate::specs::Tidy::tidy_of, crate::specs::Tidy::buffer_of))]
+pub fn tidy(bytes: &[u8], buffer: &mut [u8]) -> Result<usize, Refusal>
+    ensures value { in_full result ≡ tidy_of bytes.now (length buffer.old) }
     ensures buffer_after { buffer.new ≡ buffer_of bytes.now buffer.old }
 {
-    let l = codelist::load(bytes);
-    let outcome = l.outcome;
-    let c = l.codelist;
-    match outcome {
-        codelist::Outcome::Accepted => fit(buffer, c),
-        codelist::Outcome::Refused(r) => Outcome::Refused(Refusal::Load(r)),
-    }
-}
-
-// What the program `tidy` prints: the first `len` bytes.
-#[derive(Clone, Copy)]
-pub struct Output {
-    pub bytes: [u8; 4096],
-    pub len: usize,
+    fit(buffer, codelist::load(bytes)?)
 }
 
 // The program's output for the bytes of a sheet: the tidied sheet, or the refusal.
-pub fn answer(sheet: &[u8]) -> Output
-    ensures { lent result.bytes result.len ≡ answered sheet.now }
+#[tactic(auto, using(crate::proofs::Printed::text_inside))]
+pub fn answer(sheet: &[u8]) -> Text<4096>
+    ensures { result ≡ answered sheet.now }
 {
+    let mut text = Text::new();
     let mut bytes = [0u8; 4096];
     match tidy(sheet, &mut bytes) {
-        Outcome::Written(len) => Output {
-            bytes: bytes,
-            len: len,
-        },
-        Outcome::Refused(why) => {
-            let number = why.number() as u64;
-            let place = why.place();
-            let len = writer::refusal(&mut bytes, 0, number, place);
-            Output {
-                bytes: bytes,
-                len: len,
-            }
-        }
+        Ok(len) => text.word(&bytes[..len]),
+        Err(why) => text.refusal(u64::from(why.number()), why.place()),
     }
+    text
 }

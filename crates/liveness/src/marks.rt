@@ -1,4 +1,4 @@
-// Which lines are used: the last one, and from the back those that a used one refers to.
+// Which lines are used: the last one, and from the back those that a used one refers to. Index i is line i.
 ghost use Rattle.std.specs.Prelude.{◌≡◌};
 ghost use Rattle.codelist.specs.Codelist.{WellFormed};
 ghost use Rattle.liveness.specs.Used.{used};
@@ -7,47 +7,43 @@ ghost use Rattle.liveness.specs.Views.{Marks, mark, marked};
 use codelist::{Codelist, Op};
 
 // Line i, marked.
-fn mark(used: [bool; 65], i: u8) -> [bool; 65]
-    ensures { result ≡ mark used i }
+// A number that is no line's marks nothing, as `mark` of the specs has it.
+#[tactic(auto, using(crate::proofs::Tables::mark_out))]
+fn mark(used: &mut [bool; 65], i: u8)
+    ensures { used.new ≡ mark used.old i }
 {
-    let mut marks = used;
-    if i < 65 {
-        marks[i as usize] = true;
+    if usize::from(i) < used.len() {
+        used[usize::from(i)] = true;
     }
-    marks
 }
 
 // The lines that an operation refers to, marked.
-fn marked(used: [bool; 65], op: Op) -> [bool; 65]
-    ensures { result ≡ marked used op }
+fn mark_operands(used: &mut [bool; 65], op: Op)
+    ensures { used.new ≡ marked used.old op }
 {
     match op {
-        Op::Add(i, j) => mark(mark(used, i), j),
-        Op::Mul(i, j) => mark(mark(used, i), j),
-        Op::AddC(i, _) => mark(used, i),
-        Op::MulC(i, _) => mark(used, i),
-        Op::Pow(i, _) => mark(used, i),
-        Op::Inv(i) => mark(used, i),
+        Op::Add(i, j) | Op::Mul(i, j) => {
+            mark(used, i);
+            mark(used, j);
+        }
+        Op::AddC(i, _) | Op::MulC(i, _) | Op::Pow(i, _) | Op::Inv(i) => mark(used, i),
     }
 }
 
 // The used lines, from the back.
-pub(crate) fn used_lines(c: Codelist) -> [bool; 65]
-    requires { WellFormed c }
-    ensures { Marks (used c) result }
+#[tactic(auto, using(crate::proofs::Tables::seen_all, crate::proofs::Tables::seen_used))]
+pub(crate) fn used_lines(c: &Codelist) -> [bool; 65]
+    requires { WellFormed c.now }
+    ensures { Marks (used c.now) result }
 {
-    let n = c.factors as usize;
-    let count = c.count as usize;
+    let n = usize::from(c.factors);
+    let count = usize::from(c.count);
     let mut used = [false; 65];
     used[n + count] = true;
-    let mut k = count;
-    while 0 < k {
-        let line = n + k;
-        k -= 1;
-        if used[line] {
-            let x = c.ops[k];
-            let op = x.op;
-            used = marked(used, op);
+    // By the line, which is marked or not.
+    for k in (0..count).rev() {
+        if used[n + k + 1] {
+            mark_operands(&mut used, c.ops[k].op);
         }
     }
     used

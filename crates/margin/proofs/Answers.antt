@@ -13,29 +13,25 @@ use Rattle.range.specs.declared.Range.{Range}
 use Rattle.range.specs.Limit.{most, least}
 use Rattle.range.proofs.Valid.{true-T, false-T}
 use Rattle.rules.specs.declared.Refusal as rules
-use Rattle.rules.specs.declared.Outcome as rating
+use Rattle.rules.specs.InFull as rating
 use Rattle.rules.specs.declared.Limits.{Limits}
-use Rattle.rules.specs.declared.Rating.{Rating}
+use Rattle.rules.specs.InFull.{Rating}
 use Rattle.rules.specs.Rate.{rated, refused, rate_of}
 use Rattle.engine.specs.declared.Engine.{Engine}
 use Rattle.margin.specs.declared.Refusal.TheVariants.{Rate, Ceiling}
-use Rattle.margin.specs.declared.Edge.TheVariants.{Widen, Nowhere, Refused}
+use Rattle.margin.specs.InFull.{Widen, Nowhere, Refused}
 use Rattle.margin.specs.Edge.{Moves, moves, most_units, candidates, found, edge_of, is_ceiling, edge_for}
 use Rattle.margin.specs.Promises.{BadCeiling, Smallest, NoneMoves}
-use Rattle.margin.specs.Search.{Rateable}
 use Rattle.margin.proofs.Candidates.{Scan, first, nothing, scan}
 use Rattle.margin.proofs.Best.{no-bit, both, Compared, compared}
 use Rattle.margin.proofs.Moving.{Rated, rating-of, moves-iff}
 
-pub rateable : (c : Codelist) (xs : List ℤ) {x : Rating} → x ≡ rate_of c xs → x.outcome ≡ rating.TheVariants.Rated → Rateable c xs
-rateable c xs {x} e o = record { limits = x.limits; accepted = sym e ∙ ap (λ (o : rating.Outcome). record { outcome = o; limits = x.limits }) o }
-
 module _ (e : Engine) (xs : List ℤ) (ceiling : ℤ) {x : Rating} (is : x ≡ rate_of e.codelist xs) where
-  pub edge-refused : {r : rules.Refusal} → x.outcome ≡ rating.TheVariants.Refused r → Refused (Rate r) ≡ edge_for e xs ceiling
+  pub edge-refused : {r : rules.Refusal} → x.outcome ≡ rating.Refused r → Refused (Rate r) ≡ edge_for e xs ceiling
   unfolding edge_for
   edge-refused o = rw (← is, o)
 
-  module _ (o : x.outcome ≡ rating.TheVariants.Rated) where
+  module _ (o : x.outcome ≡ rating.Rated) where
     pub edge-beyond : is_ceiling x.limits.value ceiling ≡ false → Refused Ceiling ≡ edge_for e xs ceiling
     unfolding edge_for
     edge-beyond f = rw (← is, o, f)

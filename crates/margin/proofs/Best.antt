@@ -1,16 +1,17 @@
 -- The search, factor by factor, of any test that a wider range passes where a narrower one does: the best of the factors so far, and that the best of all is the
 -- first of the candidates: `best-is`. It says nothing of rating.
-use mathlib.Core.Bool.{Bool, true, false, ◌&&◌, cond}
+use mathlib.Core.Bool.{Bool, true, false, ◌&&◌}
 use mathlib.Core.Logic.{◌⊎◌, inl, inr}
 use mathlib.Core.Path.{◌≡◌, refl, sym, ap, ◌∙◌}
 use Prim.Native.Nat.{ℕ, suc, ◌+◌, ◌-◌, ◌/◌, ◌≤◌, ◌<◌}
 use native.Mathlib.Decide.{ℕ_discrete, dec_le}
 use native.Mathlib.Nat as N
 use native.Mathlib.Omega.{arith}
-use lib.Dec.{eqb, leb, ltb, lit<}
-use borrow.Author.Tests.{ne_eqb, leb-false, ltb-false}
-use Rattle.margin.specs.declared.Edge.TheVariants.{Widen, Nowhere}
-use Rattle.margin.specs.Edge.{most_units, candidates, first_that, found}
+use lib.Dec.{lit<}
+use Rattle.std.specs.Prelude.{Option, Some, None, Ok}
+use Rattle.margin.specs.declared.Widening.{Widening}
+use Rattle.margin.specs.InFull.{Widen, Nowhere}
+use Rattle.margin.specs.Edge.{most_units, candidates, first_that, found, in_full}
 use Rattle.margin.specs.Promises.{Before}
 use Rattle.margin.specs.Search.{Least}
 use Rattle.margin.proofs.Candidates.{Scan, first, nothing, scan}
@@ -67,35 +68,42 @@ pub record Hit (P : ℕ → ℕ → Bool) (n w i : ℕ) : Type 0 where
   pub units : (1 ≤ w) × (w ≤ most_units)
   pub passes : P i w ≡ true
 
--- the best of n factors: the first that passes, or 101 units at factor 0 where there is none
-pub record Best (P : ℕ → ℕ → Bool) (n w i : ℕ) : Type 0 where
-  pub is : ((w ≡ suc most_units) × (i ≡ 0)) ⊎ Hit P n w i
-  pub before : (u a : ℕ) → 1 ≤ a → a ≤ n → 1 ≤ u → Before u a w i → P a u ≡ false
+-- the units and the factor of a widening; 101 units at factor 0 where there is none
+abbrev pub units_of : Option Widening → ℕ
+units_of None = suc most_units
+units_of (Some w) = w.units
+
+abbrev pub factor_of : Option Widening → ℕ
+factor_of None = 0
+factor_of (Some w) = w.factor
+
+abbrev pub HitIf : (ℕ → ℕ → Bool) → ℕ → Option Widening → Type 0
+HitIf P n None = Unit
+HitIf P n (Some w) = Hit P n w.units w.factor
+
+-- the best of n factors: the first that passes, if there is one
+pub record Best (P : ℕ → ℕ → Bool) (n : ℕ) (best : Option Widening) : Type 0 where
+  pub hit : HitIf P n best
+  pub before : (u a : ℕ) → 1 ≤ a → a ≤ n → 1 ≤ u → Before u a (units_of best) (factor_of best) → P a u ≡ false
 
 module _ {P : ℕ → ℕ → Bool} where
-  pub best-start : Best P 0 (suc most_units) 0
-  best-start = record { is = inl (refl, refl); before = λ u a s m g b. absurd (omega arith) }
+  pub best-start : Best P 0 None
+  best-start = record { hit = tt; before = λ u a s m g b. absurd (omega arith) }
 
-  module _ {n w i : ℕ} (B : Best P n w i) where
-    -- there is a unit in it, and no more than 101; the factor is one of the n, or 0
-    pub best-units : (1 ≤ w) × (w ≤ suc most_units)
-    best-units = go B.is
-      where
-        go : ((w ≡ suc most_units) × (i ≡ 0)) ⊎ Hit P n w i → (1 ≤ w) × (w ≤ suc most_units)
-        go (inl e) = (omega (arith, e.0), omega (arith, e.0))
-        go (inr h) = (h.units.0, omega (arith, h.units.1))
+  -- there is a unit in it, and no more than 101; the factor is one of the n, or 0
+  pub best-units : {n : ℕ} (best : Option Widening) → Best P n best → (1 ≤ units_of best) × (units_of best ≤ suc most_units)
+  best-units None B = (omega arith, omega arith)
+  best-units (Some w) B = (B.hit.units.0, omega (arith, B.hit.units.1))
 
-    pub best-factor : i ≤ n
-    best-factor = go B.is
-      where
-        go : ((w ≡ suc most_units) × (i ≡ 0)) ⊎ Hit P n w i → i ≤ n
-        go (inl e) = omega (arith, e.1)
-        go (inr h) = h.factor.1
+  best-factor : {n : ℕ} (best : Option Widening) → Best P n best → factor_of best ≤ n
+  best-factor None B = omega arith
+  best-factor (Some w) B = B.hit.factor.1
 
+  module _ {n : ℕ} (best : Option Widening) (B : Best P n best) where
     -- the next factor passes with fewer units
-    pub best-better : {m v : ℕ} → m ≡ suc n → Least (P m) v → v < w → Best P m v m
+    best-better : {m v : ℕ} → m ≡ suc n → Least (P m) v → v < units_of best → Best P m (Some (record { factor = m; units = v }))
     best-better {m} {v} e L l = record {
-      is = inr (record { factor = (omega arith, omega arith); units = (L.some, omega (arith, best-units)); passes = L.passes });
+      hit = record { factor = (omega arith, omega arith); units = (L.some, omega (arith, best-units best B)); passes = L.passes };
       before = before;
     }
       where
@@ -105,7 +113,7 @@ module _ {P : ℕ → ℕ → Bool} where
           | no d ↦ B.before u a s (omega (arith, d, e)) g (inl (less b))
         ]
           where
-            less : Before u a v m → u < w
+            less : Before u a v m → u < units_of best
             less (inl h) = omega arith
             less (inr h) = omega (arith, h.0)
 
@@ -113,57 +121,49 @@ module _ {P : ℕ → ℕ → Bool} where
             fewer (inl h) d = h
             fewer (inr h) d = absurd (omega (arith, h.1, d))
 
-    -- or it does not
-    pub best-same : {m : ℕ} → m ≡ suc n → Rising (P m) → P m (w - 1) ≡ false → Best P m w i
-    best-same {m} e r f = record { is = is B.is; before = before }
+    -- or it does not, with one unit less than the best
+    best-same : {m : ℕ} → m ≡ suc n → ((u : ℕ) → 1 ≤ u → u ≤ units_of best - 1 → P m u ≡ false) → Best P m best
+    best-same {m} e f = record { hit = more best B.hit; before = before }
       where
-        is : ((w ≡ suc most_units) × (i ≡ 0)) ⊎ Hit P n w i → ((w ≡ suc most_units) × (i ≡ 0)) ⊎ Hit P m w i
-        is (inl z) = inl z
-        is (inr h) = inr (record { factor = (h.factor.0, omega (arith, h.factor.1)); units = h.units; passes = h.passes })
+        more : (b : Option Widening) → HitIf P n b → HitIf P m b
+        more None h = tt
+        more (Some w) h = record { factor = (h.factor.0, omega (arith, h.factor.1)); units = h.units; passes = h.passes }
 
-        before : (u a : ℕ) → 1 ≤ a → a ≤ m → 1 ≤ u → Before u a w i → P a u ≡ false
+        before : (u a : ℕ) → 1 ≤ a → a ≤ m → 1 ≤ u → Before u a (units_of best) (factor_of best) → P a u ≡ false
         before u a s k g b = elim (ℕ_discrete a m) [
-          | yes d ↦ rw d (still-fails r (fewer b d) f)
+          | yes d ↦ rw d (f u g (fewer b d))
           | no d ↦ B.before u a s (omega (arith, d, e)) g b
         ]
           where
-            fewer : Before u a w i → a ≡ m → u ≤ w - 1
+            fewer : Before u a (units_of best) (factor_of best) → a ≡ m → u ≤ units_of best - 1
             fewer (inl h) d = omega arith
-            fewer (inr h) d = absurd (omega (arith, h.1, d, e, best-factor))
+            fewer (inr h) d = absurd (omega (arith, h.1, d, e, best-factor best B))
 
-    -- one unit can't be bettered, however many factors there are
-    pub best-done : {m : ℕ} → n ≤ m → ¬ (1 < w) → Best P m w i
-    best-done {m} l o = record { is = is B.is; before = before }
-      where
-        is : ((w ≡ suc most_units) × (i ≡ 0)) ⊎ Hit P n w i → ((w ≡ suc most_units) × (i ≡ 0)) ⊎ Hit P m w i
-        is (inl e) = inl e
-        is (inr h) = inr (record { factor = (h.factor.0, omega (arith, h.factor.1)); units = h.units; passes = h.passes })
+  -- the next factor was asked for one unit less than the best, if that is one, and the best is now its least or as before
+  pub best-next : {n m most : ℕ} {best now : Option Widening} → Best P n best → m ≡ suc n → Rising (P m) → most ≡ units_of best - 1
+      → ((v : ℕ) × (Least (P m) v × (v ≤ most) × (now ≡ Some (record { factor = m; units = v }))))
+      ⊎ (((most ≡ 0) ⊎ (P m most ≡ false)) × (now ≡ best))
+      → Best P m now
+  best-next {best = best} B e r a (inl w) =
+      rw w.1.2 (best-better best B e w.1.0 (omega (arith, a, w.1.1, best-units best B)))
+  best-next {best = best} B e r a (inr (inl z, s)) = rw s (best-same best B e (λ u g l. absurd (omega (arith, a, z, g, l))))
+  best-next {best = best} B e r a (inr (inr f, s)) = rw s (best-same best B e (λ u g l. still-fails r (omega (arith, a, l)) f))
 
-        before : (u a : ℕ) → 1 ≤ a → a ≤ m → 1 ≤ u → Before u a w i → P a u ≡ false
-        before u a s k g (inl h) = absurd (omega (arith, o))
-        before u a s k g (inr h) = B.before u a s (omega (arith, h.1, best-factor)) g (inr h)
-
-    -- THE FIRST OF THE CANDIDATES
-    pub best-is : found (first_that P (candidates n)) ≡ cond (eqb i 0) Nowhere (Widen i w)
-    unfolding candidates
-    best-is = go B.is (scan P n)
-      where
-        go : ((w ≡ suc most_units) × (i ≡ 0)) ⊎ Hit P n w i → Scan P n 1 most_units → found (first_that P (candidates n)) ≡ cond (eqb i 0) Nowhere (Widen i w)
-        go (inl e) (nothing f q) = rw (q, e.1)
-        go (inl e) (first u a g l s m p f q) = no-bit (sym p ∙ B.before u a s m g (inl (omega (arith, e.0))))
-        go (inr h) (nothing f q) = no-bit (sym h.passes ∙ f w i h.factor.0 h.factor.1 h.units.0 (omega (arith, h.units.1)))
-        go (inr h) (first u a g l s m p f q) = pick (compared u a w i)
-          where
-            pick : Compared u a w i → found (first_that P (candidates n)) ≡ cond (eqb i 0) Nowhere (Widen i w)
-            pick (inl b) = no-bit (sym p ∙ B.before u a s m g b)
-            pick (inr (inl b)) = no-bit (sym h.passes ∙ f w i h.factor.0 h.factor.1 h.units.0 b)
-            pick (inr (inr e)) = ap found q ∙ rw (e.0, e.1, ne_eqb i 0 (λ z. omega (arith, z, h.factor.0)))
-
-  -- the loop's end: no factor is left, or no unit
-  pub best-end : {a n w i : ℕ} → Best P (a - 1) w i → 1 ≤ a → a - 1 ≤ n → (leb a n && ltb 1 w) ≡ false → Best P n w i
-  best-end {a} {n} {w} {i} B s m f = go (leb a n) refl (ltb 1 w) refl f
+  -- THE FIRST OF THE CANDIDATES
+  pub best-is : {n : ℕ} (best : Option Widening) → Best P n best → found (first_that P (candidates n)) ≡ in_full (Ok best)
+  unfolding candidates
+  best-is {n} None B = go (scan P n)
     where
-      go : (x : Bool) → leb a n ≡ x → (y : Bool) → ltb 1 w ≡ y → (x && y) ≡ false → Best P n w i
-      go false e y g h = let k : a - 1 ≡ n = omega (arith, leb-false a n e) in rw k at B
-      go true e false g h = best-done B m (λ l. omega (arith, l, ltb-false 1 w g))
-      go true e true g h = no-bit h
+      go : Scan P n 1 most_units → found (first_that P (candidates n)) ≡ Nowhere
+      go (nothing f q) = rw q
+      go (first u a g l s m p f q) = no-bit (sym p ∙ B.before u a s m g (inl (omega arith)))
+  best-is {n} (Some b) B = go (scan P n)
+    where
+      go : Scan P n 1 most_units → found (first_that P (candidates n)) ≡ Widen b.factor b.units
+      go (nothing f q) = no-bit (sym B.hit.passes ∙ f b.units b.factor B.hit.factor.0 B.hit.factor.1 B.hit.units.0 (omega (arith, B.hit.units.1)))
+      go (first u a g l s m p f q) = pick (compared u a b.units b.factor)
+        where
+          pick : Compared u a b.units b.factor → found (first_that P (candidates n)) ≡ Widen b.factor b.units
+          pick (inl k) = no-bit (sym p ∙ B.before u a s m g k)
+          pick (inr (inl k)) = no-bit (sym B.hit.passes ∙ f b.units b.factor B.hit.factor.0 B.hit.factor.1 B.hit.units.0 k)
+          pick (inr (inr e)) = ap found q ∙ rw (e.0, e.1)

@@ -2,7 +2,7 @@
 pub mod Candidates
 pub mod Best
 -- a range widened, and what rating then says
-pub mod Widening
+pub mod Widened
 pub mod Moving
 -- the call's answer, and specs/Promises
 pub mod Answers

@@ -5,16 +5,15 @@ use mathlib.Core.Logic.{◌⊎◌, inl, inr, ◌↔◌}
 use mathlib.Core.Path.{◌≡◌, sym, ap, ◌∙◌}
 use Prim.Native.Nat.{ℕ, ◌≤◌}
 use lib.IntN.{ℤ}
-use borrow.Author.Tests.{ne_eqb}
 use lib.Signed.{◌≤ℤ◌, lt_z, lt_z_yes, lt_z_no}
 use Rattle.algebra.proofs.Int.{ints}
 use Rattle.codelist.specs.declared.Codelist.{Codelist}
 use Rattle.range.specs.Limit.{is_valid}
 use Rattle.range.proofs.Valid.{T_true, true-T, false-T}
 use Rattle.rules.specs.declared.Refusal.{Refusal}
-use Rattle.rules.specs.declared.Outcome as outcome
+use Rattle.rules.specs.InFull as outcome
 use Rattle.rules.specs.declared.Limits.{Limits}
-use Rattle.rules.specs.declared.Rating.{Rating}
+use Rattle.rules.specs.InFull.{Rating}
 use Rattle.rules.specs.Rate.{rated, refused, rate_of}
 use Rattle.rules.specs.Isotone.{NarrowerLimits}
 use Rattle.rules.specs.Refused.{RefusedFor}
@@ -23,12 +22,13 @@ use Rattle.rules.proofs.Isotone.{isotone}
 use Rattle.rules.proofs.Refused.{refused-exactly}
 use Rattle.engine.specs.Engine.{outcome_of, rated_of}
 use Rattle.engine.proofs.Validity.{accepted-valid}
-use Rattle.margin.specs.declared.Edge.TheVariants.{Widen, Nowhere}
-use Rattle.margin.specs.Edge.{wider, Moves, passes, moves, edge_of}
+use Rattle.std.specs.Prelude.{Option, Ok}
+use Rattle.margin.specs.declared.Widening.{Widening}
+use Rattle.margin.specs.Edge.{wider, Moves, moves, edge_of, in_full}
 use Rattle.margin.specs.Promises.{Factor}
 use Rattle.margin.specs.Search.{Rateable}
 use Rattle.margin.proofs.Best.{no-bit, Rising, Best, best-is}
-use Rattle.margin.proofs.Widening.{wider-inside}
+use Rattle.margin.proofs.Widened.{wider-inside}
 
 -- ---- every rating is rated or refused
 abbrev pub Rated : Codelist → List ℤ → Type 0
@@ -42,7 +42,7 @@ rating-of c xs = go (refused-exactly.decided c xs)
     go (inr r) = inr (r.0, (refused-exactly.where-listed c xs r.0).1 r.1)
 
 -- the value of an accepted rating is a range within the limit
-pub value-valid : (c : Codelist) (xs : List ℤ) {x : Rating} → x ≡ rate_of c xs → x.outcome ≡ outcome.TheVariants.Rated → is_valid x.limits.value ≡ true
+pub value-valid : (c : Codelist) (xs : List ℤ) {x : Rating} → x ≡ rate_of c xs → x.outcome ≡ outcome.Rated → is_valid x.limits.value ≡ true
 unfolding rated_of
 value-valid c xs e o =
     ap (λ (x : Rating). is_valid x.limits.value) e
@@ -50,18 +50,13 @@ value-valid c xs e o =
 
 -- ---- the test
 module _ (c : Codelist) (xs : List ℤ) (ceiling : ℤ) (i w : ℕ) where
-  moves-refused : {r : Refusal} → rate_of c (wider xs i w) ≡ refused r → moves c xs ceiling i w ≡ true
+  pub moves-refused : {r : Refusal} → rate_of c (wider xs i w) ≡ refused r → moves c xs ceiling i w ≡ true
   unfolding moves
   moves-refused e = rw e
 
-  moves-rated : {l : Limits} → rate_of c (wider xs i w) ≡ rated l → moves c xs ceiling i w ≡ lt_z ceiling l.value.high
+  pub moves-rated : {l : Limits} → rate_of c (wider xs i w) ≡ rated l → moves c xs ceiling i w ≡ lt_z ceiling l.value.high
   unfolding moves
   moves-rated e = rw e
-
-  -- as the code has it
-  pub moves-told : {x : Rating} → x ≡ rate_of c (wider xs i w) → moves c xs ceiling i w ≡ passes x.outcome x.limits.value ceiling
-  unfolding moves
-  moves-told e = rw e
 
   pub moves-iff : (moves c xs ceiling i w ≡ true) ↔ Moves c xs ceiling i w
   moves-iff = (to (rating-of c (wider xs i w)), from)
@@ -105,11 +100,6 @@ module _ {c : Codelist} {xs : List ℤ} (R : Rateable c xs) (ceiling : ℤ) {i :
   moves-rising w u l e = (moves-iff c xs ceiling i u).1 (moves_more l ((moves-iff c xs ceiling i w).0 e))
 
 -- ---- the best of all factors is the nearest edge
-module _ (c : Codelist) (xs : List ℤ) (ceiling : ℤ) {w i : ℕ} (B : Best (moves c xs ceiling) c.factors w i) where
-  pub edge-nowhere : i ≡ 0 → Nowhere ≡ edge_of c xs ceiling
-  unfolding edge_of
-  edge-nowhere z = sym (best-is B ∙ rw z)
-
-  pub edge-widen : ¬ (i ≡ 0) → Widen i w ≡ edge_of c xs ceiling
-  unfolding edge_of
-  edge-widen n = sym (best-is B ∙ rw (ne_eqb i 0 n))
+pub best-edge : (c : Codelist) (xs : List ℤ) (ceiling : ℤ) (best : Option Widening) → Best (moves c xs ceiling) c.factors best → in_full (Ok best) ≡ edge_of c xs ceiling
+unfolding edge_of
+best-edge c xs ceiling best B = sym (best-is best B)

@@ -17,7 +17,7 @@ use Rattle.exact.proofs.Units.{units_mono}
 use Rattle.range.specs.Limit.{most}
 use Rattle.range.proofs.Valid.{true-T, false-T}
 use Rattle.rules.specs.declared.Limits.{Limits}
-use Rattle.rules.specs.declared.Rating.{Rating}
+use Rattle.rules.specs.InFull.{Rating}
 use Rattle.rules.specs.Rate.{rated, refused, rate_of}
 use Rattle.rules.specs.Exact.{Point, Jet, premium_of}
 use Rattle.rules.specs.Promises.{Inside}
@@ -27,16 +27,16 @@ use Rattle.rules.proofs.Passing.{refuted-iff}
 use Rattle.rules.proofs.Refused.{refused-exactly}
 use Rattle.rules.proofs.Sound.{sound}
 use Rattle.engine.specs.declared.Engine.{Engine}
-use Rattle.engine.specs.declared.Outcome.TheVariants.{Accepted}
+use Rattle.engine.specs.InFull.{Accepted}
 use Rattle.engine.specs.Engine.{outcome_of, rated_of}
 use Rattle.engine.proofs.Demands.{accepted-rating}
 use Rattle.margin.specs.declared.Refusal.{Refusal}
 use Rattle.margin.specs.declared.Refusal.TheVariants.{Rate, Ceiling}
-use Rattle.margin.specs.declared.Edge.TheVariants.{Widen, Nowhere, Refused}
+use Rattle.margin.specs.InFull.{Widen, Nowhere, Refused}
 use Rattle.margin.specs.Edge.{wider, Moves, most_units, edge_of, edge_for}
 use Rattle.margin.specs.Promises.{BadCeiling, Asked, Factor, Smallest, NoneMoves, EdgeRefusedFor, Free, NearestEdge}
 use Rattle.margin.specs.Search.{Rateable}
-use Rattle.margin.proofs.Widening.{wider-none, range-ends, own-high}
+use Rattle.margin.proofs.Widened.{wider-none, range-ends, own-high}
 use Rattle.margin.proofs.Moving.{Rated, rating-of, moves-iff, unmoved, moves_more}
 use Rattle.margin.proofs.Answers.{Answered, rate-refused, bad-ceiling, searched, answered, Searched, widened, nowhere, search-of, smallest-one}
 use Rattle.margin.proofs.Numbered.{numbered, table, Named, fields-tell}

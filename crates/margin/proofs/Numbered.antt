@@ -12,8 +12,7 @@ use Rattle.rules.specs.declared.Refusal as rules
 use Rattle.engine.specs.declared.Engine.{Engine}
 use Rattle.margin.specs.declared.Refusal.{Refusal}
 use Rattle.margin.specs.declared.Refusal.TheVariants.{Rate, Ceiling}
-use Rattle.margin.specs.declared.Edge.{Edge}
-use Rattle.margin.specs.declared.Edge.TheVariants.{Widen, Nowhere, Refused}
+use Rattle.margin.specs.InFull.{Edge, Widen, Nowhere, Refused}
 use Rattle.margin.specs.Edge.{number_of, place_of, edge_numbers, edge_for, Fields, fields_of}
 use Rattle.margin.specs.Promises as Promises
 use Rattle.margin.specs.Promises.{EdgeRefusedFor, RefusedWith, EdgeTable, no-codelist, count, range, divisor, overflow}

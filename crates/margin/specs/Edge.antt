@@ -2,20 +2,24 @@
 -- or the value's high end passes the ceiling". Factors are counted from 1.
 use Rattle.std.specs.Prelude.{Bool, true, ◌&&◌, cond, List, [], ◌∷◌, ◌++◌, ◌⊎◌, ◌≡◌, ℕ, zero, suc, ◌*◌, ◌-◌, ℤ, pos, ◌+ℤ◌, get_or, set, ◌<ℤ◌}
 use Rattle.std.proofs.Math.Option.{Option, none, some}
+use Rattle.std.specs.declared.option.Option as option
+use Rattle.std.specs.declared.option.Option.TheVariants as option_case
+use Rattle.std.specs.declared.result.Result.{Result}
+use Rattle.std.specs.declared.result.Result.TheVariants.{Ok, Err}
 use Rattle.std.specs.Int.Signed.{le_z, lt_z}
 use Rattle.codelist.specs.declared.Codelist.{Codelist}
 use Rattle.range.specs.declared.Range.{Range}
 use Rattle.range.specs.Limit.{most, least}
 use Rattle.rules.specs.declared.Refusal as rules
-use Rattle.rules.specs.declared.Outcome as rating
+use Rattle.rules.specs.InFull as rating
 use Rattle.rules.specs.declared.Limits.{Limits}
 use Rattle.rules.specs.Rate as Rate
 use Rattle.rules.specs.Rate.{rated, refused, rate_of}
 use Rattle.engine.specs.declared.Engine.{Engine}
+use Rattle.margin.specs.declared.Widening.{Widening}
 use Rattle.margin.specs.declared.Refusal.{Refusal}
 use Rattle.margin.specs.declared.Refusal.TheVariants as refusal
-use Rattle.margin.specs.declared.Edge.{Edge}
-use Rattle.margin.specs.declared.Edge.TheVariants.{Widen, Nowhere, Refused}
+use Rattle.margin.specs.InFull.{Edge, Widen, Nowhere, Refused}
 
 -- ════ a widening ════
 
@@ -36,8 +40,8 @@ Moves c xs ceiling i w =
 
 -- the same, decided
 abbrev pub passes : rating.Outcome → Range → ℤ → Bool
-passes (rating.TheVariants.Refused r) v ceiling = true
-passes rating.TheVariants.Rated v ceiling = lt_z ceiling v.high
+passes (rating.Refused r) v ceiling = true
+passes rating.Rated v ceiling = lt_z ceiling v.high
 
 unfoldable pub moves : Codelist → List ℤ → ℤ → ℕ → ℕ → Bool
 moves c xs ceiling i w = let x = rate_of c (wider xs i w) in passes x.outcome x.limits.value ceiling
@@ -97,8 +101,8 @@ is_ceiling v ceiling = le_z least ceiling && le_z ceiling most && le_z v.high ce
 
 -- what the rating of the ranges themselves leads to
 abbrev pub after_rating : rating.Outcome → Range → ℤ → Edge → Edge
-after_rating (rating.TheVariants.Refused r) v ceiling edge = Refused (refusal.Rate r)
-after_rating rating.TheVariants.Rated v ceiling edge = cond (is_ceiling v ceiling) edge (Refused refusal.Ceiling)
+after_rating (rating.Refused r) v ceiling edge = Refused (refusal.Rate r)
+after_rating rating.Rated v ceiling edge = cond (is_ceiling v ceiling) edge (Refused refusal.Ceiling)
 
 -- THE CALL: plain rating throughout
 unfoldable pub edge_for : Engine → List ℤ → ℤ → Edge
@@ -106,6 +110,12 @@ edge_for e xs ceiling =
     let c = e.codelist in
     let x = rate_of c xs in
     after_rating x.outcome x.limits.value ceiling (edge_of c xs ceiling)
+
+-- the code's answer in full
+abbrev pub in_full : Result (option.Option Widening) Refusal → Edge
+in_full (Ok (option_case.Some w)) = Widen w.factor w.units
+in_full (Ok option_case.None) = Nowhere
+in_full (Err r) = Refused r
 
 -- An answer in four numbers: "A refusal carries number and place, every other field is 0" (01); four zeros where there is no edge
 pub record Fields : Type 0 where

@@ -17,15 +17,14 @@ use Rattle.range.specs.Power.{chain, ups_within, pow_above, pow_below, pow_acros
 use Rattle.range.specs.Sums.{has, sum_over, valid_below, ends_products, products_of, largest_square, square_sum, squares_of, root_sum, root_of}
 use Rattle.range.specs.Star.{magnitude_of, star_root, ends_star, is_half, star_of}
 use Rattle.rules.specs.declared.Refusal.TheVariants.{BadRange, Divisor, Overflow}
-use Rattle.rules.specs.declared.Outcome as rating
+use Rattle.rules.specs.InFull as rating
 use Rattle.rules.specs.Sets.{apart, is_single, only}
 use Rattle.rules.specs.Table.{factor_row, add_row, addc_row, mulc_row, mul_row, pow_row, inv_row, line_of}
 use Rattle.rules.specs.Run.{row_of, inverts_zero, within, run_ops, factor_lines, bent_in, lines_of}
 use Rattle.rules.specs.Rate.{last, limits_of, no_limits, first_bad, rate_ranges, rate_of}
 use Rattle.rules.specs.Figures.{◌to◌, −, ends}
 use Rattle.margin.specs.declared.Refusal.TheVariants.{Rate, Ceiling}
-use Rattle.margin.specs.declared.Edge.{Edge}
-use Rattle.margin.specs.declared.Edge.TheVariants.{Widen, Nowhere, Refused}
+use Rattle.margin.specs.InFull.{Edge, Widen, Nowhere, Refused}
 use Rattle.margin.specs.Edge.{wider, moves, row, rows, candidates, first_that, edge_of, edge_for}
 
 -- a codelist's factors and operations, and the ranges of its factors
@@ -97,12 +96,12 @@ pub record Reason : Type 0 where
 -- one unit less is accepted
 abbrev pub reasons : List Reason
 reasons =
-    record { class = inverse (0 to 700); units = 84; outcome = rating.TheVariants.Rated }
-    ∷ record { class = inverse (0 to 700); units = 85; outcome = rating.TheVariants.Refused (Overflow 3) }
-    ∷ record { class = steep (0 to 0); units = 0; outcome = rating.TheVariants.Rated }
-    ∷ record { class = steep (0 to 0); units = 1; outcome = rating.TheVariants.Refused (Divisor 5) }
-    ∷ record { class = sum (0 to 1999999999) (0 to 0); units = 1; outcome = rating.TheVariants.Rated }
-    ∷ record { class = sum (0 to 1999999999) (0 to 0); units = 2; outcome = rating.TheVariants.Refused (BadRange 1) }
+    record { class = inverse (0 to 700); units = 84; outcome = rating.Rated }
+    ∷ record { class = inverse (0 to 700); units = 85; outcome = rating.Refused (Overflow 3) }
+    ∷ record { class = steep (0 to 0); units = 0; outcome = rating.Rated }
+    ∷ record { class = steep (0 to 0); units = 1; outcome = rating.Refused (Divisor 5) }
+    ∷ record { class = sum (0 to 1999999999) (0 to 0); units = 1; outcome = rating.Rated }
+    ∷ record { class = sum (0 to 1999999999) (0 to 0); units = 2; outcome = rating.Refused (BadRange 1) }
     ∷ []
 
 abbrev pub outcome_in : Reason → rating.Outcome

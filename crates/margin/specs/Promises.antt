@@ -11,12 +11,11 @@ use Rattle.rules.specs.Exact.{Point, Jet, premium_of}
 use Rattle.rules.specs.Promises.{Inside}
 use Rattle.rules.specs.Refused.{RefusedFor, range_of}
 use Rattle.engine.specs.declared.Engine.{Engine}
-use Rattle.engine.specs.declared.Outcome.TheVariants.{Accepted}
+use Rattle.engine.specs.InFull.{Accepted}
 use Rattle.engine.specs.Engine.{rated_of}
 use Rattle.margin.specs.declared.Refusal.{Refusal}
 use Rattle.margin.specs.declared.Refusal.TheVariants.{Rate, Ceiling}
-use Rattle.margin.specs.declared.Edge.{Edge}
-use Rattle.margin.specs.declared.Edge.TheVariants.{Widen, Nowhere, Refused}
+use Rattle.margin.specs.InFull.{Edge, Widen, Nowhere, Refused}
 use Rattle.margin.specs.Edge.{wider, Moves, moves, most_units, number_of, place_of, edge_numbers, edge_for, fields_of}
 
 -- ════ what is asked ════

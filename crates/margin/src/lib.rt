@@ -3,7 +3,8 @@
 #![tactic(auto)]
 
 ghost use Rattle.std.specs.Prelude.{◌≡◌};
-ghost use Rattle.margin.specs.Edge.{number_of, place_of, is_ceiling, edge_for};
+ghost use Rattle.margin.specs.declared.Refusal.TheVariants.{Rate};
+ghost use Rattle.margin.specs.Edge.{number_of, place_of, is_ceiling, edge_for, in_full};
 
 use engine::Engine;
 use range::Range;
@@ -15,7 +16,7 @@ mod widen; // widen.rt: a range widened, and what rating then says
 const LIMIT: i64 = 2_000_000_000;
 
 // Why no edge is looked for.
-#[derive(Clone, Copy)]
+#[derive(Clone, Copy, PartialEq, Eq)]
 pub enum Refusal {
     // 8 to 12: the ranges are refused by themselves
     Rate(rules::Refusal),
@@ -23,13 +24,21 @@ pub enum Refusal {
     Ceiling,
 }
 
-#[derive(Clone, Copy)]
-pub enum Edge {
-    // the factor, counted from 1, and by how many units its high end is widened
-    Widen(u8, u8),
-    // no factor by 100 units or fewer
-    Nowhere,
-    Refused(Refusal),
+// A range's high end widened.
+#[derive(Clone, Copy, PartialEq, Eq)]
+pub struct Widening {
+    // the factor, counted from 1
+    pub factor: u8,
+    // by how many units its high end is widened
+    pub units: u8,
+}
+
+impl From<rules::Refusal> for Refusal {
+    ghost from_gives = { λ r e. e ≡ Rate r };
+
+    fn from(r: rules::Refusal) -> Refusal {
+        Refusal::Rate(r)
+    }
 }
 
 impl Refusal {
@@ -58,25 +67,17 @@ impl Refusal {
 fn is_ceiling(value: Range, ceiling: i64) -> bool
     ensures { result ≡ is_ceiling value ceiling }
 {
-    (-LIMIT <= ceiling) & (ceiling <= LIMIT) & (value.high <= ceiling)
+    (-LIMIT..=LIMIT).contains(&ceiling) && value.high <= ceiling
 }
 
-// The nearest edge: the ranges' own refusals, then 22, then the search.
-pub fn nearest(engine: Engine, ranges: &[i64], ceiling: i64) -> Edge
-    ensures { result ≡ edge_for engine ranges.now ceiling }
+// The nearest edge, or none by 100 units or fewer: the ranges' own refusals, then 22, then the search.
+pub fn nearest(engine: Engine, ranges: &[i64], ceiling: i64) -> Result<Option<Widening>, Refusal>
+    ensures { in_full result ≡ edge_for engine ranges.now ceiling }
 {
     let c = engine.codelist;
-    let r = bounds::rate(c, ranges);
-    let outcome = r.outcome;
-    let limits = r.limits;
-    match outcome {
-        rules::Outcome::Refused(why) => Edge::Refused(Refusal::Rate(why)),
-        rules::Outcome::Rated => {
-            if is_ceiling(limits.value, ceiling) {
-                search::first(c, ranges, ceiling)
-            } else {
-                Edge::Refused(Refusal::Ceiling)
-            }
-        }
+    let limits = bounds::rate(c, ranges)?;
+    if !is_ceiling(limits.value, ceiling) {
+        return Err(Refusal::Ceiling);
     }
+    Ok(search::first(c, ranges, ceiling))
 }

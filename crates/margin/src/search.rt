@@ -1,17 +1,18 @@
 // The search: rating moves at a widening where it moves at a smaller one (`monotone`), so that the least of each factor is found by halving. At most eight
 // ratings a factor.
-ghost use Rattle.std.specs.Prelude.{◌≡◌, true, ◌≤◌};
-ghost use Rattle.margin.specs.Edge.{moves, most_units, edge_of};
+ghost use Rattle.std.specs.Prelude.{◌≡◌, true, ◌≤◌, Ok};
+ghost use Rattle.margin.specs.Edge.{moves, most_units, edge_of, in_full};
 ghost use Rattle.margin.specs.Search.{Rateable, Least};
 ghost use Rattle.margin.specs.Promises.{Factor};
 
-use super::{Edge, widen};
+use super::{Widening, widen};
 use codelist::Codelist;
 
 // The most units that a range is widened by.
 const MOST_UNITS: u8 = 100;
 
 // The least widening of the factor a that moves, where `most` does.
+// `Rateable` is of the codelist and the ranges together, as the caller lends them.
 fn least(c: Codelist, ranges: &[i64], a: u8, most: u8, ceiling: i64) -> u8
     requires rateable { Rateable c ranges.now }
     requires factor { Factor c a }
@@ -36,23 +37,21 @@ fn least(c: Codelist, ranges: &[i64], a: u8, most: u8, ceiling: i64) -> u8
 }
 
 // The first of all that move: each factor is asked for one unit less than the best so far, so that a later one must be better.
-pub(crate) fn first(c: Codelist, ranges: &[i64], ceiling: i64) -> Edge
+pub(crate) fn first(c: Codelist, ranges: &[i64], ceiling: i64) -> Option<Widening>
     requires { Rateable c ranges.now }
-    ensures { result ≡ edge_of c ranges.now ceiling }
+    ensures { in_full (Ok result) ≡ edge_of c ranges.now ceiling }
 {
-    let mut factor: u8 = 0;
-    let mut best = MOST_UNITS + 1;
-    let mut a: u8 = 1;
-    while (a <= c.factors) & (1 < best) {
-        if widen::moves(c, ranges, a, best - 1, ceiling) {
-            best = least(c, ranges, a, best - 1, ceiling);
-            factor = a;
+    let mut best: Option<Widening> = None;
+    // `most` is 0 where no better one is possible.
+    for factor in 1..=c.factors {
+        let most = match best {
+            None => MOST_UNITS,
+            Some(w) => w.units - 1,
+        };
+        if most != 0 && widen::moves(c, ranges, factor, most, ceiling) {
+            let units = least(c, ranges, factor, most, ceiling);
+            best = Some(Widening { factor, units });
         }
-        a += 1;
     }
-    if factor == 0 {
-        Edge::Nowhere
-    } else {
-        Edge::Widen(factor, best)
-    }
+    best
 }

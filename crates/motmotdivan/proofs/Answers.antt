@@ -1,18 +1,19 @@
 -- What the bytes of a desk and the record of ranges come to, as the code finds it out.
-use Rattle.std.proofs.Common.{◌≡◌, ℕ, ◌≤◌, false, cond, ◌&&◌, eqb, List, map, length, get_or, ℤ, sym, refl, ap, ◌∙◌, eq-eqb}
+use Rattle.std.proofs.Common.{◌≡◌, ℕ, ◌≤◌, Bool, true, false, cond, ◌&&◌, eqb, List, map, length, get_or, ℤ, sym, refl, ap, ◌∙◌, eq-eqb}
 use mathlib.Core.Option
 use mathlib.Core.Option.{Option, some, none}
 use Rattle.codelist.specs.declared.Codelist.{Codelist}
 use Rattle.codelist.specs.Codelist.{ratable}
 use Rattle.codelist.specs.Load.{empty}
-use Rattle.rules.specs.declared.Rating.{Rating}
 use Rattle.rules.specs.Rate.{rate_of}
 use Rattle.encoding.specs.Encode.{encoded}
 use Rattle.encoding.specs.Decode.{decoded, lent_codelist, holds_codelist}
 use Rattle.encoding.proofs.Decoded.{decodes-exactly}
+use Rattle.motmotdivan.specs.declared.codes.Refusal.{Refusal}
+use Rattle.motmotdivan.specs.declared.codes.Refusal.TheVariants.{NoCodelist}
 use Rattle.motmotdivan.specs.Record.{numbers, fraction, ranges_of}
-use Rattle.motmotdivan.specs.Calls.{code_of, answer_of, on_read, on_codelist, rate_answer}
-use Rattle.motmotdivan.specs.Views.{clamp, refused_quote, quote_of}
+use Rattle.motmotdivan.specs.Calls.{refusal, answer_of, on_read, on_codelist, rate_answer}
+use Rattle.motmotdivan.specs.Views.{clamp, number_of, place_of}
 use Rattle.motmotdivan.proofs.Clamped.{rate-clamped}
 
 -- What is known of bytes that hold a codelist
@@ -31,22 +32,27 @@ held d c e =
       few = x.0.factors;
     }
 
+-- A refusal that 10 comes before
+pub refused-held : (t : Bool) (r : Refusal) → let q = cond t r NoCodelist in refusal (number_of q) (place_of q) ≡ cond t (refusal (number_of r) (place_of r)) (refusal 10 0)
+refused-held true r = refl
+refused-held false r = refl
+
 module _ (d x : List ℕ) (room : ℕ) where
   -- 10: no codelist
-  pub ten-given : ((c : Codelist) → decoded d ≡ some c → ⊥) → refused_quote 10 ≡ quote_of (rate_answer d x room)
+  pub ten-given : ((c : Codelist) → decoded d ≡ some c → ⊥) → refusal 10 0 ≡ rate_answer d x room
   unfolding rate_answer
   ten-given h = go (decoded d) refl
     where
-      go : (o : Option Codelist) → decoded d ≡ o → refused_quote 10 ≡ quote_of (on_codelist o x room)
+      go : (o : Option Codelist) → decoded d ≡ o → refusal 10 0 ≡ on_codelist o x room
       go none e = refl
       go (some c) e = absurd (h c e)
 
   -- 8: a record of another length
-  pub eight-given : (eqb (length x) 128 && eqb room 192) ≡ false → refused_quote (cond (holds_codelist d) 8 10) ≡ quote_of (rate_answer d x room)
+  pub eight-given : (eqb (length x) 128 && eqb room 192) ≡ false → cond (holds_codelist d) (refusal 8 0) (refusal 10 0) ≡ rate_answer d x room
   unfolding rate_answer holds_codelist
   eight-given h = go (decoded d)
     where
-      go : (o : Option Codelist) → refused_quote (cond (Rattle.encoding.specs.Decode.held o) 8 10) ≡ quote_of (on_codelist o x room)
+      go : (o : Option Codelist) → cond (Rattle.encoding.specs.Decode.held o) (refusal 8 0) (refusal 10 0) ≡ on_codelist o x room
       go none = refl
       go (some c) = rw h
 
@@ -56,24 +62,24 @@ module _ (d x : List ℕ) (room : ℕ) where
 
     -- 18: a fraction
     pub eighteen-given : (a : ℕ) → ((c : Codelist) → decoded d ≡ some c → ranges_of x c.factors ≡ fraction a)
-        → refused_quote (cond (holds_codelist d) (code_of 18 a) 10) ≡ quote_of (rate_answer d x room)
+        → cond (holds_codelist d) (refusal 18 a) (refusal 10 0) ≡ rate_answer d x room
     unfolding rate_answer holds_codelist
     eighteen-given a h = go (decoded d) refl
       where
-        go : (o : Option Codelist) → decoded d ≡ o → refused_quote (cond (Rattle.encoding.specs.Decode.held o) (code_of 18 a) 10) ≡ quote_of (on_codelist o x room)
+        go : (o : Option Codelist) → decoded d ≡ o → cond (Rattle.encoding.specs.Decode.held o) (refusal 18 a) (refusal 10 0) ≡ on_codelist o x room
         go none e = refl
-        go (some c) e = ap quote_of (sym (read-ranges c ∙ ap (on_read c) (h c e)))
+        go (some c) e = sym (read-ranges c ∙ ap (on_read c) (h c e))
 
     -- what rating gives, of numbers in 64 bits
     pub rating-given : (xs : List ℤ)
         → ((c : Codelist) → decoded d ≡ some c → (ys : List ℤ) × ((ranges_of x c.factors ≡ numbers ys) × (map clamp ys ≡ xs)))
-        → quote_of (answer_of (rate_of (lent_codelist d) xs)) ≡ quote_of (rate_answer d x room)
+        → answer_of (rate_of (lent_codelist d) xs) ≡ rate_answer d x room
     unfolding rate_answer lent_codelist empty rate_of ratable
     rating-given xs h = go (decoded d) refl
       where
-        go : (o : Option Codelist) → decoded d ≡ o → quote_of (answer_of (rate_of (Option.get_or o empty) xs)) ≡ quote_of (on_codelist o x room)
+        go : (o : Option Codelist) → decoded d ≡ o → answer_of (rate_of (Option.get_or o empty) xs) ≡ on_codelist o x room
         go none e = refl
         go (some c) e =
             let r = h c e in
-            ap (λ (z : Rating). quote_of (answer_of z)) (ap (rate_of c) (sym r.1.1) ∙ rate-clamped c r.0)
-            ∙ ap quote_of (sym (read-ranges c ∙ ap (on_read c) r.1.0))
+            ap answer_of (ap (rate_of c) (sym r.1.1) ∙ rate-clamped c r.0)
+            ∙ sym (read-ranges c ∙ ap (on_read c) r.1.0)

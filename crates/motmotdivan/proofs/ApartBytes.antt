@@ -2,8 +2,8 @@
 use Rattle.std.proofs.Common.{◌≡◌, ℕ, ◌/◌, ◌%◌, ◌≤◌, Bool, true, false, cond, eqb, List, [], ◌∷◌, length, sym, refl, ap, ◌∙◌, true≢false, arith, lit≤, eq-eqb, ne_eqb}
 use mathlib.Core.List.{Memᴰ}
 use native.Mathlib.Decide.{ℕ_discrete}
-use Rattle.codelist.specs.declared.Outcome.{Outcome}
-use Rattle.codelist.specs.declared.Outcome.TheVariants.{Accepted, Refused}
+use Rattle.codelist.specs.InFull.{Outcome}
+use Rattle.codelist.specs.InFull.{Accepted, Refused}
 use Rattle.codelist.specs.Load.{load_of}
 use Rattle.classes.specs.Classes.{is_class}
 use Rattle.motmotdivan.specs.Calls.{code_of, quoted_load_numbers, quoted_rate_numbers, Answer, result, refusal, rate_answer, load_code, load_state, rate_code}

@@ -5,7 +5,7 @@ use mathlib.Core.Option.{Option, some, none}
 use Rattle.codelist.specs.declared.Codelist.{Codelist}
 use Rattle.codelist.proofs.Laws.{both_true, both-made}
 use Rattle.rules.specs.declared.Limits.{Limits}
-use Rattle.rules.specs.declared.Outcome as rating
+use Rattle.rules.specs.InFull as rating
 use Rattle.rules.specs.declared.Refusal as rules
 use Rattle.rules.specs.Rate as Rate
 use Rattle.rules.specs.Rate.{rate_of}
@@ -90,8 +90,8 @@ rate-listed (rules.TheVariants.Overflow k) h = record {
 }
 
 rating-listed : (o : rating.Outcome) (l : Limits) → RatePlaced o → ListedAnswer (answered o l)
-rating-listed rating.TheVariants.Rated l h = tt
-rating-listed (rating.TheVariants.Refused q) l h = rate-listed q h
+rating-listed rating.Rated l h = tt
+rating-listed (rating.Refused q) l h = rate-listed q h
 
 pub listed : (d x : List ℕ) (room : ℕ) → ListedAnswer (rate_answer d x room)
 listed d x room = go (came d x room)

@@ -12,7 +12,7 @@ use Rattle.range.specs.Limit.{from_to, is_valid}
 use Rattle.rules.specs.Overflow.{Beyond}
 use Rattle.rules.specs.Rate.{pairs, first_bad, rate_ranges, rate_of}
 use Rattle.rules.proofs.Passing.{bad-iff, good-iff}
-use Rattle.motmotdivan.specs.declared.doubles.Whole.TheVariants.{Is, Not}
+use Rattle.std.specs.declared.option.Option.TheVariants.{Some, None}
 use Rattle.motmotdivan.specs.Doubles.{Number, whole, no_whole}
 use Rattle.motmotdivan.specs.Views.{clamp, clamped}
 
@@ -21,12 +21,12 @@ clamp-small : (z : ℤ) → mag (clamp z) < 2 ^ 63
 clamp-small (pos n) = omega arith
 clamp-small (negsuc n) = omega arith
 
-pub is-back : (x : Number) (z : ℤ) → clamped x ≡ Is z → to_z w64 (of_z w64 z) ≡ z
+pub is-back : (x : Number) (z : ℤ) → clamped x ≡ Some z → to_z w64 (of_z w64 z) ≡ z
 is-back (whole y) z e = let c : clamp y ≡ z = cc in ap (λ (w : ℤ). to_z w64 (of_z w64 w)) (sym c) ∙ back (clamp y) (clamp-small y) ∙ c
-is-back no_whole z e = absurd (let n : ◌≡◌ {A = ℕ} 0 1 = cc in omega arith)
+is-back no_whole z e = cc
 
-pub not-whole : (x : Number) → clamped x ≡ Not → x ≡ no_whole
-not-whole (whole y) e = absurd (let n : ◌≡◌ {A = ℕ} 0 1 = cc in omega arith)
+pub not-whole : (x : Number) → clamped x ≡ None → x ≡ no_whole
+not-whole (whole y) e = cc
 not-whole no_whole e = refl
 
 -- a number that there is in 64 bits is that of a whole one
@@ -35,9 +35,9 @@ pub record Clamped (x : Number) (z : ℤ) : Type 0 where
   pub is : x ≡ whole exact
   pub near : clamp exact ≡ z
 
-pub is-clamped : (x : Number) (z : ℤ) → clamped x ≡ Is z → Clamped x z
+pub is-clamped : (x : Number) (z : ℤ) → clamped x ≡ Some z → Clamped x z
 is-clamped (whole y) z e = record { exact = y; is = refl; near = cc }
-is-clamped no_whole z e = absurd (let n : ◌≡◌ {A = ℕ} 0 1 = cc in omega arith)
+is-clamped no_whole z e = cc
 
 -- ---- the limit
 pub kept : (z : ℤ) → nat_abs z ≤ limit → clamp z ≡ z

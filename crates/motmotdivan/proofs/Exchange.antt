@@ -3,8 +3,8 @@ use Rattle.std.proofs.Common.{◌≡◌, ℕ, Bool, true, false, cond, eqb, List
 use mathlib.Core.Option.{Option, some, none, get_or}
 use native.Mathlib.Decide.{ℕ_discrete}
 use Rattle.codelist.specs.declared.Codelist.{Codelist}
-use Rattle.codelist.specs.declared.Outcome.{Outcome}
-use Rattle.codelist.specs.declared.Outcome.TheVariants.{Accepted, Refused}
+use Rattle.codelist.specs.InFull.{Outcome}
+use Rattle.codelist.specs.InFull.{Accepted, Refused}
 use Rattle.codelist.specs.Codelist.{WellFormed}
 use Rattle.codelist.specs.Load.{empty, load_of}
 use Rattle.codelist.specs.Exchange.{Exchanged, ExchangedText, LoadedAlike}

@@ -1,7 +1,6 @@
 pub mod Parts
 pub mod Wholes
 pub mod Patterns
-pub mod Cells
 pub mod Clamped
 pub mod Reading
 pub mod Results
@@ -11,6 +10,7 @@ pub mod Exact
 pub mod Small
 pub mod Lowest
 pub mod Cases
+pub mod Started
 pub mod Loading
 pub mod Quoting
 pub mod Slots

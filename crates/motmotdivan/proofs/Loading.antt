@@ -4,9 +4,9 @@ use mathlib.Core.List.{Memᴰ}
 use mathlib.Core.Option.{some}
 use native.Mathlib.Decide.{ℕ_discrete}
 use Rattle.codelist.specs.declared.Codelist.{Codelist}
-use Rattle.codelist.specs.declared.Loaded.{Loaded}
-use Rattle.codelist.specs.declared.Outcome.{Outcome}
-use Rattle.codelist.specs.declared.Outcome.TheVariants.{Accepted, Refused}
+use Rattle.codelist.specs.InFull.{Loaded}
+use Rattle.codelist.specs.InFull.{Outcome}
+use Rattle.codelist.specs.InFull.{Accepted, Refused}
 use Rattle.codelist.specs.declared.Refusal as refusal
 use Rattle.codelist.specs.declared.Refusal.{Refusal}
 use Rattle.codelist.specs.Load.{number_of, place_of, load_numbers, accepted, load_of}

@@ -1,38 +1,38 @@
 -- Patterns of eight bytes: as a number, which are finite, and that a whole number's is no NaN's.
-use Rattle.std.proofs.Common.{◌≡◌, ℕ, zero, suc, ◌+◌, ◌*◌, ◌/◌, ◌%◌, ◌^◌, ◌<◌, ◌≤◌, Bool, true, false, cond, not, T, eqb, ltb, leb, List, [], ◌∷◌, ◌++◌, length, get_or, take, drop, ℤ, pos, negsuc, sym, refl, ap, ◌∙◌, subst, mul_assoc, arith, length-drop, length-take-le, drop-drop, take-add, ltb-false, ltb-true, le-ltb, eq-eqb, ne_eqb}
-use native.Mathlib.Nat.{pow-succ'}
+use Rattle.std.proofs.Common.{◌≡◌, ℕ, zero, suc, ◌+◌, ◌*◌, ◌/◌, ◌%◌, ◌^◌, ◌<◌, Bool, true, false, cond, not, T, eqb, ltb, leb, List, [], ◌∷◌, length, get_or, drop, ℤ, pos, negsuc, sym, refl, ap, ◌∙◌, subst, arith, drop_of_length-le, ltb-false, ltb-true, le-ltb, eq-eqb, ne_eqb}
 use lib.Ieee.{Float, nan, inf, binary64, odd, units, round, of_int, is_nan, of_fields, of_bits, nan_bits, prec, low, hid}
 use lib.Ieee.Bits.{nan_bits_above}
 use lib.Ieee.Fits.{round_is}
 use lib.Ieee.Scale.{finite}
-use Rattle.encoding.specs.Bytes.{number_of}
-use Rattle.encoding.proofs.Numbers.{number-four}
+use Rattle.std.specs.Int.{w64, from_le_bytes, to_le_bytes}
+use Rattle.encoding.specs.Bytes.{number_of, low_first}
 use Rattle.motmotdivan.specs.Doubles.{no_whole, whole_of}
 use Rattle.motmotdivan.specs.Views.{finite_pattern}
 
-number_append : (xs ys : List ℕ) → number_of (xs ++ ys) ≡ number_of xs + 256 ^ length xs * number_of ys
+number-step : (s : List ℕ) (k : ℕ) → number_of (drop k s) ≡ get_or s k 0 + 256 * number_of (drop (suc k) s)
 unfolding number_of
-number_append [] ys = omega arith
-number_append (x ∷ xs) ys =
-    let e : 256 ^ suc (length xs) ≡ 256 * 256 ^ length xs = pow-succ' 256 (length xs) in
-    rw (number_append xs ys, e, mul_assoc 256 (256 ^ length xs) (number_of ys)) (omega arith)
+number-step [] zero = refl
+number-step [] (suc k) = refl
+number-step (x ∷ xs) zero = refl
+number-step (x ∷ xs) (suc k) = number-step xs k
 
-number-halves : (s : List ℕ) (at : ℕ) → at + 8 ≤ length s
-    → number_of (take 8 (drop at s)) ≡ number_of (take 4 (drop at s)) + 4_294_967_296 * number_of (take 4 (drop (at + 4) s))
-number-halves s at h =
-    let l : length (take 4 (drop at s)) ≡ 4 = length-take-le 4 (drop at s) (omega (arith, length-drop at s)) in
-    ap number_of (take-add 4 4 (drop at s)) ∙ number_append (take 4 (drop at s)) (take 4 (drop 4 (drop at s)))
-    ∙ rw (l, drop-drop 4 at s)
+-- Eight bytes as std has them
+pub eight-read : (s : List ℕ) → length s ≡ 8 → from_le_bytes w64 s ≡ number_of s
+unfolding number_of
+eight-read s h =
+    let z : number_of (drop 8 s) ≡ 0 = ap number_of (drop_of_length-le s {i = 8} (omega arith)) in
+    omega (arith, number-step s 0, number-step s 1, number-step s 2, number-step s 3, number-step s 4, number-step s 5, number-step s 6, number-step s 7)
 
--- Eight bytes as the code reads them
-pub number-eight : (s : List ℕ) (at : ℕ) → at + 8 ≤ length s → number_of (take 8 (drop at s))
-    ≡ get_or s at 0 + 256 * get_or s (at + 1) 0 + 65_536 * get_or s (at + 2) 0 + 16_777_216 * get_or s (at + 3) 0 + 4_294_967_296 * get_or s (at + 4) 0
-    + 1_099_511_627_776 * get_or s (at + 5) 0 + 281_474_976_710_656 * get_or s (at + 6) 0 + 72_057_594_037_927_936 * get_or s (at + 7) 0
-number-eight s at h =
-    let a : at + 4 + 1 ≡ at + 5 = omega arith in
-    let b : at + 4 + 2 ≡ at + 6 = omega arith in
-    let c : at + 4 + 3 ≡ at + 7 = omega arith in
-    number-halves s at h ∙ rw (number-four s at (omega arith), number-four s (at + 4) (omega arith), a, b, c) (omega arith)
+pub eight-written : (u : ℕ) → to_le_bytes w64 u ≡ low_first 8 u
+unfolding low_first
+eight-written u =
+    let b : u / 65536 ≡ u / 256 / 256 = omega arith in
+    let c : u / 16777216 ≡ u / 256 / 256 / 256 = omega arith in
+    let d : u / 4294967296 ≡ u / 256 / 256 / 256 / 256 = omega arith in
+    let e : u / 1099511627776 ≡ u / 256 / 256 / 256 / 256 / 256 = omega arith in
+    let f : u / 281474976710656 ≡ u / 256 / 256 / 256 / 256 / 256 / 256 = omega arith in
+    let g : u / 72057594037927936 ≡ u / 256 / 256 / 256 / 256 / 256 / 256 / 256 = omega arith in
+    rw (b, c, d, e, f, g)
 
 -- Which patterns are finite: those whose exponent's field is not all ones
 odd-finite : (d : ℕ) (s : Bool) (n k l : ℕ) → T (finite (odd d s n k l))

@@ -2,7 +2,7 @@
 use Rattle.std.proofs.Common.{◌≡◌, ℕ, suc, ◌+◌, ◌≤◌, ◌⊎◌, List, [], ◌∷◌, ◌++◌, length, ℤ, sym, refl, ap, ◌∙◌, subst, inl, inr, arith, lit≤, length-append, length-take}
 use Rattle.codelist.specs.declared.Codelist.{Codelist}
 use Rattle.codelist.specs.declared.Entry.{Entry}
-use Rattle.codelist.specs.declared.Outcome as loading
+use Rattle.codelist.specs.InFull as loading
 use Rattle.codelist.specs.declared.Refusal as codelist
 use Rattle.codelist.specs.Load as Load
 use Rattle.codelist.specs.Refused.{Upto, RefusedFor, too_long, no-first-line, malformed, factor-count, unknown-year, too-many-lines, no-operation}
@@ -11,7 +11,7 @@ use Rattle.codelist.proofs.Accepted.{refused-empty}
 use Rattle.codelist.proofs.Refused.{refused-exactly}
 use Rattle.rules.specs.declared.Line.{Line}
 use Rattle.rules.specs.declared.Limits.{Limits}
-use Rattle.rules.specs.declared.Rating.{Rating}
+use Rattle.rules.specs.InFull.{Rating}
 use Rattle.rules.specs.declared.Refusal as rules
 use Rattle.rules.specs.Table.{line_of}
 use Rattle.rules.specs.Run.{row_of, through, run_ops, factor_lines, always_bent, operations}
@@ -43,18 +43,18 @@ load-listed s r (constant x h g f) = line s _ _ _ x.upto
 load-listed s r (multiplier x h g f e) = line s _ _ _ x.upto
 
 -- a refused load by its outcome
-whole : (s : List ℕ) (r : codelist.Refusal) → (Load.load_of s).outcome ≡ loading.TheVariants.Refused r → Load.load_of s ≡ Load.refused r
+whole : (s : List ℕ) (r : codelist.Refusal) → (Load.load_of s).outcome ≡ loading.Refused r → Load.load_of s ≡ Load.refused r
 whole s r e = λ i. record { outcome = e i; codelist = refused-empty s r e i }
 
-pub load-place : (s : List ℕ) (r : codelist.Refusal) → (Load.load_of s).outcome ≡ loading.TheVariants.Refused r → Load.place_of r ≤ 65
+pub load-place : (s : List ℕ) (r : codelist.Refusal) → (Load.load_of s).outcome ≡ loading.Refused r → Load.place_of r ≤ 65
 load-place s r e = load-listed s r ((refused-exactly.where-listed s r).0 (whole s r e))
 
 pub load-placed : (s : List ℕ) → LoadPlaced (Load.load_of s).outcome
 load-placed s = go (Load.load_of s).outcome refl
   where
     go : (o : loading.Outcome) → (Load.load_of s).outcome ≡ o → LoadPlaced o
-    go loading.TheVariants.Accepted e = tt
-    go (loading.TheVariants.Refused r) e = load-place s r e
+    go loading.Accepted e = tt
+    go (loading.Refused r) e = load-place s r e
 
 -- ---- rating
 run_length : (ops : List Entry) (ls ms : List Line) → run_ops ops ls ≡ through ms → length ms ≡ length ls + length ops

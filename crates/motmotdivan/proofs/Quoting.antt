@@ -6,7 +6,7 @@ use lib.Ieee.{binary64, of_bits, of_int, to_bits}
 use Rattle.codelist.specs.declared.Codelist.{Codelist}
 use Rattle.codelist.proofs.Ratable.{well-formed-ratable}
 use Rattle.rules.specs.declared.Limits.{Limits}
-use Rattle.rules.specs.declared.Outcome as rating
+use Rattle.rules.specs.InFull as rating
 use Rattle.rules.specs.declared.Refusal as rules
 use Rattle.rules.specs.Rate as Rate
 use Rattle.rules.specs.Rate.{rated, rate_of}
@@ -53,9 +53,9 @@ not-zero (refusal n p) h e =
 
 -- ---- where rating is asked
 -- what rating gives is limits, or a refusal of its own
-rated-answer : (o : rating.Outcome) (k l : Limits) → answered o k ≡ result l → (o ≡ rating.TheVariants.Rated) × (k ≡ l)
-rated-answer rating.TheVariants.Rated k l e = (refl, cc)
-rated-answer (rating.TheVariants.Refused q) k l e = not-result (sym e)
+rated-answer : (o : rating.Outcome) (k l : Limits) → answered o k ≡ result l → (o ≡ rating.Rated) × (k ≡ l)
+rated-answer rating.Rated k l e = (refl, cc)
+rated-answer (rating.Refused q) k l e = not-result (sym e)
 
 no-eighteen : (q : rules.Refusal) → ¬ (Rate.number_of q ≡ 18)
 no-eighteen rules.TheVariants.NoCodelist e = omega arith
@@ -65,12 +65,12 @@ no-eighteen (rules.TheVariants.Divisor k) e = omega arith
 no-eighteen (rules.TheVariants.Overflow k) e = omega arith
 
 no_fraction : (o : rating.Outcome) (k : Limits) (a : ℕ) → ¬ (answered o k ≡ refusal 18 a)
-no_fraction rating.TheVariants.Rated k a e = not-result e
-no_fraction (rating.TheVariants.Refused q) k a e = let n : Rate.number_of q ≡ 18 = cc in no-eighteen q n
+no_fraction rating.Rated k a e = not-result e
+no_fraction (rating.Refused q) k a e = let n : Rate.number_of q ≡ 18 = cc in no-eighteen q n
 
 -- of what a desk holds it gives neither 10 nor 8: the codelist is well formed, and there are two numbers for each factor
 module _ (c : Codelist) (d x : List ℕ) (room : ℕ) (f : Fit c d x room) (xs : List ℤ) (n : ranges_of x c.factors ≡ numbers xs) where
-  listed-for : (q : rules.Refusal) → (rate_of c xs).outcome ≡ rating.TheVariants.Refused q → RefusedFor c xs q
+  listed-for : (q : rules.Refusal) → (rate_of c xs).outcome ≡ rating.Refused q → RefusedFor c xs q
   unfolding rated_of
   listed-for q e = (demands.rate-refused-listed (record { codelist = c }) xs q).0 (ap outcome_of e)
 
@@ -92,8 +92,8 @@ module _ (c : Codelist) (d x : List ℕ) (room : ℕ) (f : Fit c d x room) (xs :
   neither m p h = go (rate_of c xs).outcome refl
     where
       go : (o : rating.Outcome) → (rate_of c xs).outcome ≡ o → ¬ (answered o (rate_of c xs).limits ≡ refusal m p)
-      go rating.TheVariants.Rated e t = not-result t
-      go (rating.TheVariants.Refused q) e t = let k : Rate.number_of q ≡ m = cc in h q (listed-for q e) k
+      go rating.Rated e t = not-result t
+      go (rating.Refused q) e t = let k : Rate.number_of q ≡ m = cc in h q (listed-for q e) k
 
 -- an accepted rating
 record Accepted (d x : List ℕ) (room : ℕ) (l : Limits) : Type 0 where
@@ -217,16 +217,16 @@ module _ (d x r : List ℕ) where
     answer-is = read_answer d x (length r) (given g) ∙ ap (on_read c) n
 
     code_same : (o : rating.Outcome) (l : Limits) → answer_code (answered o l) ≡ engine_code (outcome_of o)
-    code_same rating.TheVariants.Rated l = refl
-    code_same (rating.TheVariants.Refused q) l = refl
+    code_same rating.Rated l = refl
+    code_same (rating.Refused q) l = refl
 
     record_same : answer_record (answer_of (rate_of c xs)) ≡ result_record (rate_of c xs).limits
     unfolding rated_of
     record_same = go (rate_of c xs).outcome refl
       where
         go : (o : rating.Outcome) → (rate_of c xs).outcome ≡ o → answer_record (answered o (rate_of c xs).limits) ≡ result_record (rate_of c xs).limits
-        go rating.TheVariants.Rated e = refl
-        go (rating.TheVariants.Refused q) e =
+        go rating.Rated e = refl
+        go (rating.Refused q) e =
             let z = demands.rate-zero (record { codelist = c }) xs (engine.TheVariants.Rate q) (ap outcome_of e) in
             sym (ap result_record z ∙ no_result)
 

@@ -1,15 +1,10 @@
 -- What the cells that were converted say of the record of ranges: all numbers, or the lowest factor with a fraction.
 use Rattle.std.proofs.Common.{◌≡◌, ℕ, zero, suc, ◌+◌, ◌*◌, ◌/◌, ◌<◌, ◌≤◌, List, [], ◌∷◌, map, length, get_or, take, drop, ℤ, pos, sym, refl, ap, ◌∙◌, arith, drop-cons}
 use native.Mathlib.Decide.{ℕ_discrete}
-use Rattle.motmotdivan.specs.declared.doubles.Whole.TheVariants.{Is}
 use Rattle.motmotdivan.specs.Doubles.{Number, whole, no_whole}
 use Rattle.motmotdivan.specs.Record.{number_at, Read, numbers, fraction, before, read_from}
-use Rattle.motmotdivan.specs.Views.{clamp, clamped}
+use Rattle.motmotdivan.specs.Views.{clamp, Whole}
 use Rattle.motmotdivan.proofs.Clamped.{is-clamped}
-
--- The first k numbers of the record b are whole, and in 64 bits those of xs
-abbrev pub Whole : List ℕ → List ℤ → ℕ → Type 0
-Whole b xs k = (j : ℕ) → j < k → clamped (number_at b j) ≡ Is (get_or xs j (pos 0))
 
 pub record AllRead (b : List ℕ) (xs : List ℤ) (a m : ℕ) : Type 0 where
   pub exact : List ℤ

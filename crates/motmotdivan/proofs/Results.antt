@@ -1,7 +1,7 @@
 -- The bytes of a result while it is written: the doubles written so far stand at the front.
-use Rattle.std.proofs.Common.{◌≡◌, ℕ, zero, suc, ◌+◌, ◌*◌, ◌/◌, ◌<◌, ◌≤◌, List, [], ◌∷◌, ◌++◌, map, length, get_or, take, drop, set, replicate, ℤ, pos, sym, refl, ap, ◌∙◌, subst, append_assoc, append-nil, add-zero, add-one, arith, lit≤, length-append, length-take-le, take_all, take-suc, take_at}
+use Rattle.std.proofs.Common.{◌≡◌, ℕ, zero, suc, ◌+◌, ◌-◌, ◌*◌, ◌/◌, ◌<◌, ◌≤◌, List, [], ◌∷◌, ◌++◌, map, length, get_or, take, drop, replicate, ℤ, pos, sym, refl, ap, ◌∙◌, subst, append_assoc, append-nil, add-one, arith, lit≤, length-append, length-drop, length-take-le, take_all, take-suc, take_at, drop_at, drop-drop, drop_of_length-le}
 use lib.ListN.{length-map}
-use lib.Seq.{sets, sets-eq, length-sets}
+use borrow.Rule.Slice.PartMut.{put_mid}
 use lib.Ieee.{binary64, of_int, to_bits}
 use Rattle.encoding.specs.Bytes.{low_first}
 use Rattle.range.specs.declared.Range.{Range}
@@ -37,20 +37,18 @@ double-alone z = append-nil (double_of z)
 pub unmapped : (X Y : Type 0) (f : X → Y) (l : List X) (n : ℕ) → length (map f l) ≡ n → length l ≡ n
 unmapped X Y f l n e = sym (length-map l f) ∙ e
 
--- Two runs of stores, one behind the other, are one
-sets-append : (s : List ℕ) (i : ℕ) (xs ys : List ℕ) → sets (sets s i xs) (i + length xs) ys ≡ sets s i (xs ++ ys)
-sets-append s i [] ys = ap (λ (k : ℕ). sets s k ys) (add-zero i)
-sets-append s i (x ∷ xs) ys =
-    let e : i + suc (length xs) ≡ suc i + length xs = omega arith in
-    ap (λ (k : ℕ). sets (sets (set s i x) (suc i) xs) k ys) e ∙ sets-append (set s i x) (suc i) xs ys
-
--- the two ends of a range
-pub range-put : (s : List ℕ) (at : ℕ) (r : Range) → sets (sets s at (double_of r.low)) (at + 8) (double_of r.high) ≡ sets s at (doubles_of (ends_of (r ∷ [])))
+-- the two ends of a range, one behind the other
+pub range-put : (r : Range) → double_of r.low ++ double_of r.high ≡ doubles_of (ends_of (r ∷ []))
 unfolding doubles_of ends_of
-range-put s at r =
-    ap (λ (k : ℕ). sets (sets s at (double_of r.low)) (at + k) (double_of r.high)) (sym (double-length r.low))
-    ∙ sets-append s at (double_of r.low) (double_of r.high)
-    ∙ ap (λ (t : List ℕ). sets s at (double_of r.low ++ t)) (sym (append-nil (double_of r.high)))
+range-put r = ap (λ (t : List ℕ). double_of r.low ++ t) (sym (append-nil (double_of r.high)))
+
+pub put_two : (s : List ℕ) (y z : ℤ) {a b : List ℕ} → length s ≡ 16 → a ≡ double_of y → b ≡ double_of z
+    → put_mid 8 (length (a ++ drop 8 s) - 8) (a ++ drop 8 s) b ≡ double_of y ++ double_of z
+put_two s y z {a} {b} l p q =
+    let m : length a ≡ 8 = ap length p ∙ double-length y in
+    let n : length (a ++ drop 8 s) - 8 ≡ 8 = omega (arith, length-append a (drop 8 s), length-drop 8 s) in
+    let e : drop 8 (drop 8 s) ≡ [] = drop-drop 8 8 s ∙ drop_of_length-le s {i = 16} (omega arith) in
+    rw (n, take_at a (drop 8 s) 8 m, drop_at a (drop 8 s) 8 m, e, p, q) (ap (λ (t : List ℕ). double_of y ++ t) (append-nil (double_of z)))
 
 -- The numbers written so far, into 192 bytes
 pub record Front (zs : List ℤ) (s : List ℕ) : Type 0 where
@@ -61,19 +59,21 @@ pub front-none : (s : List ℕ) → length s ≡ 192 → Front [] s
 unfolding doubles_of
 front-none s h = record { long = h; front = refl }
 
-pub front-more : (zs ys : List ℤ) (s : List ℕ) (at : ℕ) → Front zs s → 8 * length zs ≡ at → at + 8 * length ys ≤ 192 → Front (zs ++ ys) (sets s at (doubles_of ys))
-front-more zs ys s at f e h =
+-- more of them, in the n bytes from a place on
+pub front-more : (zs ys : List ℤ) (s : List ℕ) (at n : ℕ) → Front zs s → 8 * length zs ≡ at → n ≡ 8 * length ys → at + n ≤ 192
+    → Front (zs ++ ys) (put_mid at n s (doubles_of ys))
+front-more zs ys s at n f e m h =
     let vs = doubles_of ys in
-    let n = doubles-length ys in
+    let rest = drop n (drop at s) in
+    let v = doubles-length ys in
+    let t = length-take-le at s (omega (arith, f.long)) in
     let w : take at s ≡ doubles_of zs = ap (λ (k : ℕ). take k s) (sym e) ∙ f.front in
-    let l : length (take at s ++ vs) ≡ 8 * length (zs ++ ys) =
-    length-append (take at s) vs
-    ∙ omega (arith, length-take-le at s (omega (arith, f.long)), n, e, length-append zs ys) in
+    let l : length (take at s ++ vs) ≡ 8 * length (zs ++ ys) = length-append (take at s) vs ∙ omega (arith, t, v, e, length-append zs ys) in
     record {
-      long = length-sets s at vs ∙ f.long;
+      long = length-append (take at s) (vs ++ rest) ∙ omega (arith, length-append vs rest, length-drop n (drop at s), length-drop at s, t, v, f.long);
       front =
-          ap (take (8 * length (zs ++ ys))) (sets-eq vs s at (omega (arith, n, f.long)))
-          ∙ take_at (take at s ++ vs) (drop (at + length vs) s) (8 * length (zs ++ ys)) l
+          ap (take (8 * length (zs ++ ys))) (sym (append_assoc (take at s) vs rest))
+          ∙ take_at (take at s ++ vs) rest (8 * length (zs ++ ys)) l
           ∙ ap (λ (t : List ℕ). t ++ vs) w ∙ sym (doubles-append zs ys);
     }
 
@@ -97,7 +97,7 @@ slopes-length v g = length-append (ends_of (v ∷ [])) (ends_of g) ∙ omega (ar
 
 pub front-slope : (v : Range) (g : List Range) (k : ℕ) (d : Range) (s : List ℕ) → k < length g → k < 8
     → Front (ends_of (v ∷ []) ++ ends_of (take k g)) s
-    → Front (ends_of (v ∷ []) ++ ends_of (take (k + 1) g)) (sets s (16 + 16 * k) (doubles_of (ends_of (get_or g k d ∷ []))))
+    → Front (ends_of (v ∷ []) ++ ends_of (take (k + 1) g)) (put_mid (16 + 16 * k) (32 + 16 * k - (16 + 16 * k)) s (doubles_of (ends_of (get_or g k d ∷ []))))
 front-slope v g k d s h r f =
     let a = ends_of (v ∷ []) in
     let x = ends_of (take k g) in
@@ -106,9 +106,9 @@ front-slope v g k d s h r f =
     append_assoc a x y
     ∙ ap (λ (t : List ℤ). a ++ t)
     (sym (ap (λ (j : ℕ). ends_of (take j g)) (add-one k) ∙ ap ends_of (take-suc g k d h) ∙ ends-append (take k g) (get_or g k d ∷ []))) in
-    subst (λ (zs : List ℤ). Front zs (sets s (16 + 16 * k) (doubles_of y))) e
-    (front-more (a ++ x) y s (16 + 16 * k) f
-    (omega (arith, slopes-length v (take k g), length-take-le k g (omega arith))) (omega (arith, ends-length (get_or g k d ∷ []))))
+    let i : 32 + 16 * k - (16 + 16 * k) ≡ 8 * length y = omega (arith, ends-length (get_or g k d ∷ [])) in
+    subst (λ (zs : List ℤ). Front zs (put_mid (16 + 16 * k) (32 + 16 * k - (16 + 16 * k)) s (doubles_of y))) e
+    (front-more (a ++ x) y s (16 + 16 * k) _ f (omega (arith, slopes-length v (take k g), length-take-le k g (omega arith))) i (omega arith))
 
 -- The numbers of a result, as they come: value and slopes, the two sets, bend, full
 abbrev pub slopes : Limits → List ℤ
@@ -127,9 +127,9 @@ abbrev pub up_to_full : Limits → List ℤ
 up_to_full l = up_to_spectrum l ++ ends_of (l.full ∷ [])
 
 -- one number at the end
-front-one : (zs : List ℤ) (z : ℤ) (s : List ℕ) (at : ℕ) → Front zs s → 8 * length zs ≡ at → at + 8 ≤ 192 → Front (zs ++ (z ∷ [])) (sets s at (double_of z))
+front-one : (zs : List ℤ) (z : ℤ) (s : List ℕ) (at : ℕ) → Front zs s → 8 * length zs ≡ at → at + 8 ≤ 192 → Front (zs ++ (z ∷ [])) (put_mid at 8 s (double_of z))
 front-one zs z s at f e h =
-    subst (λ (vs : List ℕ). Front (zs ++ (z ∷ [])) (sets s at vs)) (double-alone z) (front-more zs (z ∷ []) s at f e (omega arith))
+    subst (λ (vs : List ℕ). Front (zs ++ (z ∷ [])) (put_mid at 8 s vs)) (double-alone z) (front-more zs (z ∷ []) s at 8 f e refl h)
 
 module _ (l : Limits) (e : length l.gradient ≡ 8) where
   support-length : length (up_to_support l) ≡ 19
@@ -151,24 +151,34 @@ module _ (l : Limits) (e : length l.gradient ≡ 8) where
       ∙ ap (λ (t : List ℤ). t ++ ends_of (l.spectrum ∷ l.full ∷ [])) (append_assoc (slopes l) (pos l.support ∷ []) (pos l.nonlinear ∷ []))
 
   module _ (s : List ℕ) where
-    pub front-support : Front (slopes l) s → Front (up_to_support l) (sets s 144 (double_of (pos l.support)))
+    pub front-support : Front (slopes l) s → Front (up_to_support l) (put_mid 144 8 s (double_of (pos l.support)))
     front-support f = front-one (slopes l) (pos l.support) s 144 f (omega (arith, slopes-length l.value l.gradient, e)) (lit≤ tt)
 
-    pub front-nonlinear : Front (up_to_support l) s → Front (up_to_nonlinear l) (sets s 152 (double_of (pos l.nonlinear)))
+    pub front-nonlinear : Front (up_to_support l) s → Front (up_to_nonlinear l) (put_mid 152 8 s (double_of (pos l.nonlinear)))
     front-nonlinear f = front-one (up_to_support l) (pos l.nonlinear) s 152 f (omega (arith, support-length)) (lit≤ tt)
 
-    pub front-spectrum : Front (up_to_nonlinear l) s → Front (up_to_spectrum l) (sets s 160 (doubles_of (ends_of (l.spectrum ∷ []))))
-    front-spectrum f =
-        front-more (up_to_nonlinear l) (ends_of (l.spectrum ∷ [])) s 160 f (omega (arith, nonlinear-length)) (omega (arith, ends-length (l.spectrum ∷ [])))
+    pub front-spectrum : Front (up_to_nonlinear l) s → Front (up_to_spectrum l) (put_mid 160 16 s (doubles_of (ends_of (l.spectrum ∷ []))))
+    front-spectrum f = front-more (up_to_nonlinear l) (ends_of (l.spectrum ∷ [])) s 160 16 f (omega (arith, nonlinear-length)) (omega (arith, ends-length (l.spectrum ∷ []))) (lit≤ tt)
 
-    pub front-full : Front (up_to_spectrum l) s → Front (up_to_full l) (sets s 176 (doubles_of (ends_of (l.full ∷ []))))
-    front-full f =
-        front-more (up_to_spectrum l) (ends_of (l.full ∷ [])) s 176 f (omega (arith, spectrum-length)) (omega (arith, ends-length (l.full ∷ [])))
+    pub front-full : Front (up_to_spectrum l) s → Front (up_to_full l) (put_mid 176 16 s (doubles_of (ends_of (l.full ∷ []))))
+    front-full f = front-more (up_to_spectrum l) (ends_of (l.full ∷ [])) s 176 16 f (omega (arith, spectrum-length)) (omega (arith, ends-length (l.full ∷ []))) (lit≤ tt)
 
     -- THE WHOLE RESULT
     pub front-result : Front (up_to_full l) s → s ≡ result_record l
     unfolding result_record
     front-result f = front-whole (up_to_full l) s f full-length ∙ ap doubles_of all-numbers
+
+-- The last four parts, one after another
+pub front-last : (l : Limits) (s : List ℕ) {a b p q : List ℕ} → length l.gradient ≡ 8 → Front (slopes l) s
+    → a ≡ double_of (pos l.support) → b ≡ double_of (pos l.nonlinear) → p ≡ doubles_of (ends_of (l.spectrum ∷ [])) → q ≡ doubles_of (ends_of (l.full ∷ []))
+    → let t = put_mid 160 16 (put_mid 152 8 (put_mid 144 8 s a) b) p in put_mid 176 (length t - 176) t q ≡ result_record l
+front-last l s {a} {b} {p} {q} g f i j k m =
+    let s1 = put_mid 144 8 s (double_of (pos l.support)) in
+    let s2 = put_mid 152 8 s1 (double_of (pos l.nonlinear)) in
+    let s3 = put_mid 160 16 s2 (doubles_of (ends_of (l.spectrum ∷ []))) in
+    let f3 : Front (up_to_spectrum l) s3 = front-spectrum l g s2 (front-nonlinear l g s1 (front-support l g s f)) in
+    let n : length s3 - 176 ≡ 16 = omega (arith, f3.long) in
+    rw (i, j, k, m, n) (front-result l g _ (front-full l g s3 f3))
 
 -- After a refusal every number is 0, and so is every byte
 pub no_result : result_record no_limits ≡ replicate 192 0

@@ -3,7 +3,7 @@ use Rattle.std.proofs.Common.{◌≡◌, ℕ, true, List, length, ℤ, sym, refl
 use mathlib.Core.Option.{Option, some, none, get_or}
 use native.Mathlib.Decide.{ℕ_discrete}
 use Rattle.codelist.specs.declared.Codelist.{Codelist}
-use Rattle.codelist.specs.declared.Outcome as loading
+use Rattle.codelist.specs.InFull as loading
 use Rattle.codelist.specs.Codelist.{ratable}
 use Rattle.codelist.specs.Load.{empty, load_of}
 use Rattle.codelist.proofs.Accepted.{accepted-well-formed}
@@ -11,7 +11,7 @@ use Rattle.rules.specs.Rate.{rate_of}
 use Rattle.encoding.specs.Decode.{decoded, lent_codelist}
 use Rattle.encoding.specs.Load.{kept_or}
 use Rattle.engine.specs.declared.Engine.{Engine}
-use Rattle.engine.specs.declared.Outcome as engine
+use Rattle.engine.specs.InFull as engine
 use Rattle.engine.specs.Engine.{loaded, loaded_of, rated_of}
 use Rattle.classes.specs.Classes.{is_class, engine_at, codelist_at, with_engine}
 use Rattle.classes.specs.Calls.{engine_outcome, class_loaded, class_rated}
@@ -44,8 +44,8 @@ held_at d k h = go (which k h)
 
 -- ---- loading, on the bytes of one class
 load-outcome : (e : Engine) (o : loading.Outcome) (c : Codelist) → loaded_code o ≡ outcome_code (engine_outcome (loaded e o c).outcome)
-load-outcome e loading.TheVariants.Accepted c = refl
-load-outcome e (loading.TheVariants.Refused r) c = refl
+load-outcome e loading.Accepted c = refl
+load-outcome e (loading.Refused r) c = refl
 
 module _ (b s : List ℕ) (l : length b ≡ 512) where
   load_same : (e : Engine) → load_code b s ≡ outcome_code (engine_outcome (loaded_of e s).outcome)
@@ -57,14 +57,14 @@ module _ (b s : List ℕ) (l : length b ≡ 512) where
   left-same = go (load_of s).outcome refl
     where
       go : (o : loading.Outcome) → (load_of s).outcome ≡ o → lent (kept_or b o (load_of s).codelist) ≡ (loaded (lent b) o (load_of s).codelist).engine
-      go loading.TheVariants.Accepted e =
+      go loading.Accepted e =
           rw (eq-eqb (length b) 512 l) (ap (λ (c : Codelist). record { codelist = c }) (lent_back (load_of s).codelist (accepted-well-formed s e)))
-      go (loading.TheVariants.Refused r) e = refl
+      go (loading.Refused r) e = refl
 
 -- ---- rating, by the bytes of one class
 rate-outcome : (o : engine.Outcome) → engine_code o ≡ outcome_code (engine_outcome o)
-rate-outcome engine.TheVariants.Accepted = refl
-rate-outcome (engine.TheVariants.Refused r) = refl
+rate-outcome engine.Accepted = refl
+rate-outcome (engine.Refused r) = refl
 
 -- the code and the record are those of an engine
 abbrev AsBy : (b x r : List ℕ) → List ℤ → Engine → Type 0

@@ -1,8 +1,8 @@
 -- What is promised of the two calls by class number. Statements; the proof is in proofs/ApartBytes.antt.
 use Rattle.std.specs.Prelude.{◌≡◌, ℕ, ◌/◌, ◌%◌, ◌≤◌, true, false, ◌↔◌, List, length, replicate, ℤ}
 use mathlib.Core.List.{Memᴰ}
-use Rattle.classes.specs.declared.Outcome.{Outcome}
-use Rattle.classes.specs.declared.Outcome.TheVariants.{Accepted, Refused}
+use Rattle.classes.specs.InFull.{Outcome}
+use Rattle.classes.specs.InFull.{Accepted, Refused}
 use Rattle.classes.specs.Classes.{is_class, codelist_at}
 use Rattle.classes.specs.Calls.{number_of, place_of, class_loaded, class_rated}
 use Rattle.motmotdivan.specs.Record.{numbers, ranges_of, result_record}

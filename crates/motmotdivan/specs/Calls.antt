@@ -3,11 +3,11 @@
 use Rattle.std.specs.Prelude.{ℕ, ◌+◌, ◌*◌, cond, ◌&&◌, List, [], ◌∷◌, length, replicate, ◌==◌}
 use Rattle.std.proofs.Math.Option.{Option, some, none}
 use Rattle.codelist.specs.declared.Codelist.{Codelist}
-use Rattle.codelist.specs.declared.Outcome as loading
+use Rattle.codelist.specs.InFull as loading
 use Rattle.codelist.specs.Load as Load
 use Rattle.rules.specs.declared.Limits.{Limits}
-use Rattle.rules.specs.declared.Outcome as rating
-use Rattle.rules.specs.declared.Rating.{Rating}
+use Rattle.rules.specs.InFull as rating
+use Rattle.rules.specs.InFull.{Rating}
 use Rattle.rules.specs.Rate as Rate
 use Rattle.encoding.specs.Decode.{decoded}
 use Rattle.encoding.specs.Load.{left_by}
@@ -24,8 +24,8 @@ abbrev pub quoted_load_numbers : List ℕ
 quoted_load_numbers = 10 ∷ Load.load_numbers
 
 abbrev pub loaded_code : loading.Outcome → ℕ
-loaded_code loading.TheVariants.Accepted = 0
-loaded_code (loading.TheVariants.Refused r) = code_of (Load.number_of r) (Load.place_of r)
+loaded_code loading.Accepted = 0
+loaded_code (loading.Refused r) = code_of (Load.number_of r) (Load.place_of r)
 
 -- "A desk of another length is empty too, and loading into it gives 10, ahead of 1."
 unfoldable pub load_code : List ℕ → List ℕ → ℕ
@@ -47,8 +47,8 @@ pub data Answer : Type 0 where
   refusal : ℕ → ℕ → Answer
 
 abbrev pub answered : rating.Outcome → Limits → Answer
-answered rating.TheVariants.Rated l = result l
-answered (rating.TheVariants.Refused r) l = refusal (Rate.number_of r) (Rate.place_of r)
+answered rating.Rated l = result l
+answered (rating.Refused r) l = refusal (Rate.number_of r) (Rate.place_of r)
 
 abbrev pub answer_of : Rating → Answer
 answer_of r = answered r.outcome r.limits

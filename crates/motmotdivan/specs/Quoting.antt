@@ -6,14 +6,14 @@ use Rattle.std.proofs.Math.Option.{some}
 use Rattle.std.specs.Float.{binary64}
 use Rattle.std.specs.Float.Ieee.Exact.{HasValue}
 use Rattle.codelist.specs.declared.Codelist.{Codelist}
-use Rattle.codelist.specs.declared.Outcome as loading
+use Rattle.codelist.specs.InFull as loading
 use Rattle.codelist.specs.declared.Refusal as loading-refusal
 use Rattle.codelist.specs.Load as Load
 use Rattle.rules.specs.declared.Limits.{Limits}
 use Rattle.rules.specs.Exact.{Point}
 use Rattle.rules.specs.Promises.{Inside, Sound}
-use Rattle.engine.specs.declared.Outcome.{Outcome}
-use Rattle.engine.specs.declared.Outcome.TheVariants.{Accepted, Refused}
+use Rattle.engine.specs.InFull.{Outcome}
+use Rattle.engine.specs.InFull.{Accepted, Refused}
 use Rattle.engine.specs.Engine.{number_of, place_of, rated_of}
 use Rattle.encoding.specs.Decode.{decoded}
 use Rattle.motmotdivan.specs.Doubles.{whole, no_whole, signed, whole_of, double_of}
@@ -107,8 +107,8 @@ pub record Quoting : Type 0 where
   pub past-last : (c : Codelist) (d x y r : List ℕ) → Given c d x r → length y ≡ 128 → take (16 * c.factors) x ≡ take (16 * c.factors) y
       → (rate_code d x r ≡ rate_code d y r) × (rate_record d x r ≡ rate_record d y r)
   -- 0 only where accepted, and each refusal by its number and place
-  pub load-accepted : (d s : List ℕ) → (load_code d s ≡ 0) ↔ ((length d ≡ 512) × ((Load.load_of s).outcome ≡ loading.TheVariants.Accepted))
-  pub load-refused : (d s : List ℕ) (r : loading-refusal.Refusal) → length d ≡ 512 → (Load.load_of s).outcome ≡ loading.TheVariants.Refused r
+  pub load-accepted : (d s : List ℕ) → (load_code d s ≡ 0) ↔ ((length d ≡ 512) × ((Load.load_of s).outcome ≡ loading.Accepted))
+  pub load-refused : (d s : List ℕ) (r : loading-refusal.Refusal) → length d ≡ 512 → (Load.load_of s).outcome ≡ loading.Refused r
       → Coded (load_code d s) (Load.number_of r) (Load.place_of r)
   pub load-elsewhere : (d s : List ℕ) → ¬ (length d ≡ 512) → Coded (load_code d s) 10 0
   pub rate-accepted : (d x r : List ℕ) → (rate_code d x r ≡ 0) ↔ ((l : Limits) × (rate_answer d x (length r) ≡ result l))

@@ -1,28 +1,22 @@
 // Where the bytes of a class stand on the desk: 512 after those of the classes before it.
-ghost use Rattle.std.specs.Prelude.{◌≡◌, ◌≤◌, true};
-ghost use Rattle.classes.specs.Classes.{is_class};
-ghost use Rattle.motmotdivan.specs.Desk.{slot_at, bytes_of};
+ghost use Rattle.std.specs.Prelude.{◌≡◌, ◌+◌, ◌≤◌, IfOk};
+ghost use Rattle.motmotdivan.specs.Views.{start_of};
+
+use super::codes::Refusal;
 
 // The bytes of a desk: those of four classes.
-pub(crate) const LENGTH: usize = 2048;
+const LENGTH: usize = 2048;
 
-// Where those of a class begin.
-pub(crate) fn start_of(class: u64) -> usize
-    requires { is_class class ≡ true }
-    ensures value { result ≡ slot_at class }
-    ensures upper_bound { result ≤ 1536 }
+// Where those of a class begin, on a desk of so many bytes. One of another length is empty.
+pub(crate) fn start_of(class: u64, length: usize) -> Result<usize, Refusal>
+    ensures value { result ≡ start_of class length }
+    ensures upper_bound { IfOk result (λ at. at + 512 ≤ length) }
 {
-    (class - 1) as usize * encoding::LENGTH
-}
-
-// Those of a class: none, of a desk of another length.
-pub(crate) fn bytes_of(class: u64, state: &[u8]) -> &[u8]
-    requires { is_class class ≡ true }
-    ensures { result.now ≡ bytes_of state.now class }
-{
-    if state.len() != LENGTH {
-        return &state[0..0];
+    if !classes::is_class(class) {
+        return Err(Refusal::Class);
     }
-    let at = start_of(class);
-    &state[at..at + encoding::LENGTH]
+    if length != LENGTH {
+        return Err(Refusal::NoCodelist);
+    }
+    Ok((class - 1) as usize * encoding::LENGTH)
 }

@@ -1,81 +1,44 @@
-// Rating on bytes, up to the code and the limits.
+// Rating on the bytes of a class, up to the limits.
 ghost use Rattle.std.specs.Prelude.{◌≡◌, if◌then◌else◌};
 ghost use Rattle.encoding.specs.Decode.{holds_codelist};
-ghost use Rattle.motmotdivan.specs.Calls.{answer_of, rate_answer};
-ghost use Rattle.motmotdivan.specs.Views.{RatePlaced, quote_of, refused_quote};
+ghost use Rattle.motmotdivan.specs.declared.codes.Refusal.TheVariants.{NoCodelist};
+ghost use Rattle.motmotdivan.specs.Calls.{rate_answer};
+ghost use Rattle.motmotdivan.specs.Views.{in_full};
 
-use super::{codes, record};
-use rules::{Limits, Outcome, Rating};
-
-// The code, and the limits, of which every field is 0 after a refusal.
-#[derive(Clone, Copy)]
-pub struct Quote {
-    pub code: u64,
-    pub limits: Limits,
-}
-
-fn refuse(code: u64) -> Quote
-    ensures { result ≡ refused_quote code }
-{
-    let limits = Limits::ZERO;
-    Quote {
-        code: code,
-        limits: limits,
-    }
-}
+use super::codes::Refusal;
+use super::record;
+use rules::Limits;
 
 // A refusal that 10 comes before: the bytes are looked at first.
-fn refuse_held(state: &[u8], code: u64) -> Quote
-    ensures { result ≡ refused_quote (if holds_codelist state.now then code else 10) }
+fn held(state: &[u8], refusal: Refusal) -> Refusal
+    ensures { result ≡ (if holds_codelist state.now then refusal else NoCodelist) }
 {
     if encoding::holds_codelist(state) {
-        refuse(code)
+        refusal
     } else {
-        refuse(codes::NO_CODELIST)
-    }
-}
-
-// What rating gave.
-fn answer(rating: Rating) -> Quote
-    requires { RatePlaced rating.outcome }
-    ensures { result ≡ quote_of (answer_of rating) }
-{
-    let outcome = rating.outcome;
-    match outcome {
-        Outcome::Rated => {
-            let limits = rating.limits;
-            Quote {
-                code: 0,
-                limits: limits,
-            }
-        }
-        Outcome::Refused(r) => refuse(codes::code(engine::Refusal::Rate(r))),
+        Refusal::NoCodelist
     }
 }
 
 // 10, 8, 18, then what rating gives. Whether the bytes hold a codelist is found out by rating itself, so that the bytes are read once; only where 8 or 18
 // is to be given are they looked at before.
-pub(crate) fn quoted(state: &[u8], ranges: &[u8], room: usize) -> Quote
-    ensures { result ≡ quote_of (rate_answer state.now ranges.now room) }
+pub(crate) fn quoted(state: &[u8], ranges: &[u8], room: usize) -> Result<Limits, Refusal>
+    ensures { in_full result ≡ rate_answer state.now ranges.now room }
 {
     if state.len() != encoding::LENGTH {
-        return refuse(codes::NO_CODELIST);
+        return Err(Refusal::NoCodelist);
     }
-    let n = codes::wide(state[0]) as usize;
-    if !((1 <= n) & (n <= 8)) {
-        return refuse(codes::NO_CODELIST);
+    let n = usize::from(state[0]);
+    if n < 1 || 8 < n {
+        return Err(Refusal::NoCodelist);
     }
-    if ranges.len() != record::RANGES_LENGTH {
-        return refuse_held(state, codes::OTHER_LENGTH);
+    if ranges.len() != record::RANGES_LENGTH || room != record::RESULT_LENGTH {
+        return Err(held(state, Refusal::Length));
     }
-    if room != record::RESULT_LENGTH {
-        return refuse_held(state, codes::OTHER_LENGTH);
-    }
-    let m = 2 * n;
     let mut values = [0i64; 16];
-    let whole = record::numbers_of(ranges, m, &mut values);
-    if record::has_fraction(&values[..whole], m) {
-        return refuse_held(state, codes::fraction_code(whole as u64 / 2 + 1));
+    let ends = &mut values[..2 * n];
+    if let Err(factor) = record::numbers_of(ranges, ends) {
+        return Err(held(state, Refusal::Fraction(factor)));
     }
-    answer(bounds::rate_at(state, &values[..m]))
+    Ok(bounds::rate_at(state, ends)?)
 }

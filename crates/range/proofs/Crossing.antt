@@ -17,7 +17,7 @@ use Rattle.range.specs.Steps.{around_root, with_square, rounded_up}
 use Rattle.range.proofs.Valid.{not-true, and_left, and_right, both-valid}
 use Rattle.range.proofs.Extremes.{least-product, greatest-product}
 use Rattle.range.proofs.Fitting.{low-within, high-within, first-valid, second-valid, pick_yes, over-sum_of}
-use Rattle.range.proofs.Scanning.{scan-index, scan-member, scan-outside}
+use Rattle.range.proofs.Scanning.{scan-member, scan-outside}
 use Rattle.range.proofs.Scanning.{few, Few, Summed, summed-start, summed-member, summed-skip, summed-end}
 use Rattle.range.proofs.Squaring.{mul-few, no_squares, Squared, squared-start, squared-member, squared-skip}
 use Rattle.range.proofs.Squaring.{read-valid, squared-valid, squared-is}
@@ -57,7 +57,7 @@ module _ (s : ℕ) (g h : List Range) where
 
   module _ (products : Range) (left right : Squares) (rest a : ℕ) (i : Crossed products left right rest a) where
     -- a turn: x and y are what was read of the factor a
-    module _ (x y : Range) (f : ¬ (rest ≡ 0)) (m : rest % 2 ≡ 1) (e : x ≡ at g a) (d : y ≡ at h a) where
+    module _ (x y : Range) (f : a < 8) (m : rest % 2 ≡ 1) (e : x ≡ at g a) (d : y ≡ at h a) where
       pub crossed-member : (p : Range) (l r : Squares) → both_valid x y ≡ true → p ≡ ends_sum products (ends_product x y)
           → l ≡ with_square left (nat_abs (largest_square x)) → r ≡ with_square right (nat_abs (largest_square y)) → Crossed p l r (rest / 2) (a + 1)
       crossed-member p l r v pe le re =
@@ -66,7 +66,7 @@ module _ (s : ℕ) (g h : List Range) where
           let vy = second-valid true x y (sym v) refl in
           record {
             summed =
-                summed-member s _ products rest a i.summed p (scan-index s rest a scan f) (scan-member s rest a scan m)
+                summed-member s _ products rest a i.summed p f (scan-member s rest a scan m)
                 (rw (e, d) at (product-few x y vx vy)) (rw (e, d) at pe);
             first = squared-member s g left rest a i.first l x f m e vx le;
             second = squared-member s h right rest a i.second r y f m d vy re;
@@ -83,11 +83,11 @@ module _ (s : ℕ) (g h : List Range) where
       unfolding products_of
       crossed_over v = rw (crossed-invalid v) (sym (over-sum_of (root_of s g h)))
 
-    pub crossed-skip : ¬ (rest ≡ 0) → ¬ (rest % 2 ≡ 1) → Crossed products left right (rest / 2) (a + 1)
+    pub crossed-skip : a < 8 → ¬ (rest % 2 ≡ 1) → Crossed products left right (rest / 2) (a + 1)
     crossed-skip f m =
         let scan = i.summed.scan in
         record {
-          summed = summed-skip s _ products rest a i.summed (scan-index s rest a scan f) (scan-outside s rest a scan m);
+          summed = summed-skip s _ products rest a i.summed f (scan-outside s rest a scan m);
           first = squared-skip s g left rest a i.first f m;
           second = squared-skip s h right rest a i.second f m;
         }

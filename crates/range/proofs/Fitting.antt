@@ -1,23 +1,25 @@
 -- The ends of a valid range are small, so that what is computed of them fits an `i64`; and the two ways out of a test. Assumes nothing.
 use mathlib.Core.Path.{◌≡◌, refl, ◌∙◌, sym}
 use mathlib.Core.Bool.{Bool, true, false, ◌&&◌, cond}
-use mathlib.Core.Logic.{inr}
+use mathlib.Core.Logic.{◌⊎◌, inr}
 use Prim.Native.Nat.{ℕ, ◌≤◌}
 use native.Mathlib.Omega.{arith}
 use native.Mathlib.Nat.{mul-le-mul}
 use lib.IntN.{ℤ, pos, negsuc, nat_abs, neg_ℤ, ◌+ℤ◌, ◌*ℤ◌, +ℤ_idl}
 use lib.Dec.{T}
 use lib.Signed.{le_z, non_neg, ◌≤ℤ◌}
+use Rattle.std.specs.Int.{int_max}
+use borrow.Author.Rules.{rules}
 use mir.Syntax.{w8, w32, w64}
 use mir.Val.{Fits, SFits, to_z, of_z}
 use mir.ValLaws.{to_z-of_z, to_z_pos}
 use Rattle.algebra.proofs.Int.{ints, neg-dif, neg-abs, add-abs, within-abs, mul-abs}
 use Rattle.exact.proofs.Machine.{fits-abs}
 use Rattle.range.specs.declared.Range.{Range}
-use Rattle.range.specs.Limit.{least, most, from_to, over, is_valid, both_valid, kept}
-use Rattle.range.specs.Arithmetic.{sum_of, ends_neg, neg_of, spread_of, ends_hull, hull_of}
+use Rattle.range.specs.Limit.{least, most, from_to, over, is_valid, both_valid, kept, sticky₁, sticky₂}
+use Rattle.range.specs.Arithmetic.{greater_of, sum_of, ends_neg, neg_of, spread_of, ends_hull, hull_of}
 use Rattle.range.specs.Steps.{Small}
-use Rattle.range.proofs.Valid.{T_true, true-T, and_left, and_right, ends-of, valid-of, both_left}
+use Rattle.range.proofs.Valid.{T_true, true-T, and_left, and_right, ends-of, valid-of, both_left, both-valid}
 use Rattle.range.proofs.Valid.{both_right, kept-is, sticky₁-is, sticky₂-is, not-true, and-false, over-invalid}
 use Rattle.range.proofs.Extremes.{lesser-left, lesser-any, greater-left, greater-any, least-product, greatest-product}
 
@@ -200,3 +202,23 @@ pub ruleset counting = (byte-within, byte-read)
 
 -- what a branch's test tells
 pub ruleset branching = (first-valid, second-valid, passed, failed, pick_yes, pick_no)
+
+-- the library's greater of two numbers is 01's
+pub max-greater : (x y : ℤ) → int_max x y ≡ greater_of x y
+max-greater x y = search rules
+
+-- ---- operations on ranges that were tested, and where one of them is none
+module _ (f : Range → Range) (a : Range) where
+  pub sticky₁-made : (z : Range) → is_valid a ≡ true → z ≡ kept (f a) → z ≡ sticky₁ f a
+  sticky₁-made z v e = pick_yes (is_valid a) (kept (f a)) over z v e
+
+  pub sticky₁-none : is_valid a ≡ false → over ≡ sticky₁ f a
+  sticky₁-none v = pick_no (is_valid a) (kept (f a)) over over v refl
+
+module _ (f : Range → Range → Range) (a b : Range) where
+  pub sticky₂-made : (z : Range) → is_valid a ≡ true → is_valid b ≡ true → z ≡ kept (f a b) → z ≡ sticky₂ f a b
+  sticky₂-made z v w e = pick_yes (both_valid a b) (kept (f a b)) over z (T_true (both-valid a b (true-T v) (true-T w))) e
+
+  pub sticky₂-none : (is_valid a ≡ false) ⊎ (is_valid b ≡ false) → over ≡ sticky₂ f a b
+  unfolding both_valid
+  sticky₂-none v = pick_no (both_valid a b) (kept (f a b)) over over (and-false (is_valid a) (is_valid b) v) refl

@@ -30,8 +30,11 @@ scan-start s h = record { small = h; within = zero-le; left = sym (N.div-one s) 
 
 module _ (s rest a : ℕ) (i : Scan s rest a) where
   -- past the eighth factor nothing is left
+  pub scan-ended : 8 ≤ a → rest ≡ 0
+  scan-ended h = i.left ∙ N.div-eq_of_lt (N.lt_of_lt_of_le i.small (pow_mono {i = 8} {j = a} h))
+
   pub scan-index : ¬ (rest ≡ 0) → a < 8
-  scan-index f = N.lt_of_not-le (λ k. f (i.left ∙ N.div-eq_of_lt (N.lt_of_lt_of_le i.small (pow_mono {i = 8} {j = a} k))))
+  scan-index f = N.lt_of_not-le (λ k. f (scan-ended k))
 
   pub scan-next : a < 8 → Scan s (rest / 2) (a + 1)
   scan-next h = record {

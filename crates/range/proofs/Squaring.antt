@@ -27,7 +27,7 @@ use Rattle.range.proofs.Extremes.{greater-any}
 use Rattle.range.proofs.Fitting.{InLimit, low-within, high-within, pick_yes, pick_no}
 use Rattle.range.proofs.Powers.{ten-thousand}
 use Rattle.range.proofs.SumOver.{members-valid, largest_square-nonneg}
-use Rattle.range.proofs.Scanning.{Scan, scan-start, scan-next, scan-index, scan-member, scan-outside}
+use Rattle.range.proofs.Scanning.{Scan, scan-start, scan-next, scan-member, scan-outside}
 use Rattle.range.proofs.Scanning.{valid-member, valid-skip, valid-end, member_or, few, sum-end}
 
 -- ---- a square is small
@@ -93,7 +93,7 @@ module _ (s : ℕ) (g : List Range) where
     squared-eight = let l = i.scan.within in record { whole = omega (arith, i.whole); rest = omega (arith, i.rest) }
 
     -- a turn: x is what was read of the factor a
-    pub squared-member : (next : Squares) (x : Range) → ¬ (rest ≡ 0) → rest % 2 ≡ 1 → x ≡ at g a → is_valid x ≡ true
+    pub squared-member : (next : Squares) (x : Range) → a < 8 → rest % 2 ≡ 1 → x ≡ at g a → is_valid x ≡ true
         → next ≡ with_square total (nat_abs (largest_square x)) → Squared next (rest / 2) (a + 1)
     unfolding sum_below
     squared-member next x f m e v n =
@@ -102,7 +102,7 @@ module _ (s : ℕ) (g : List Range) where
         let y = nat_abs (square_at a) in
         let few-y = square-few (at g a) w in
         rw (n, e) record {
-          scan = scan-next s rest a scan (scan-index s rest a scan f);
+          scan = scan-next s rest a scan f;
           whole = omega (arith, i.whole);
           rest = omega (arith, i.rest);
           is =
@@ -111,25 +111,25 @@ module _ (s : ℕ) (g : List Range) where
           valid = valid-member s g a i.valid w;
         }
 
-    pub squared-skip : ¬ (rest ≡ 0) → ¬ (rest % 2 ≡ 1) → Squared total (rest / 2) (a + 1)
+    pub squared-skip : a < 8 → ¬ (rest % 2 ≡ 1) → Squared total (rest / 2) (a + 1)
     unfolding sum_below
     squared-skip f m =
         let scan = i.scan in
         let o = scan-outside s rest a scan m in
         record {
-          scan = scan-next s rest a scan (scan-index s rest a scan f);
+          scan = scan-next s rest a scan f;
           whole = omega (arith, i.whole);
           rest = omega (arith, i.rest);
           is = i.is ∙ rw (add-one a, o) (sym (+ℤ_idl (squares_below a)));
           valid = valid-skip s g a i.valid o;
         }
 
-    pub read-valid : (x : Range) → ¬ (rest ≡ 0) → rest % 2 ≡ 1 → x ≡ at g a → T (valid_over s g) → T (is_valid x)
+    pub read-valid : (x : Range) → a < 8 → rest % 2 ≡ 1 → x ≡ at g a → T (valid_over s g) → T (is_valid x)
     read-valid x f m e t =
         let scan = i.scan in
-        rw e (members-valid s g t a (scan-index s rest a scan f) (true-T (scan-member s rest a scan m)))
+        rw e (members-valid s g t a f (true-T (scan-member s rest a scan m)))
 
-    pub squared-over : (x : Range) → ¬ (rest ≡ 0) → rest % 2 ≡ 1 → x ≡ at g a → is_valid x ≡ false → over ≡ squares_of s g
+    pub squared-over : (x : Range) → a < 8 → rest % 2 ≡ 1 → x ≡ at g a → is_valid x ≡ false → over ≡ squares_of s g
     unfolding squares_of
     squared-over x f m e v = pick_no (valid_over s g) _ _ _ (not-true (λ t. rw v at (read-valid x f m e t))) refl
 

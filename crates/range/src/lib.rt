@@ -3,11 +3,11 @@
 // `OVER` too: so a caller tests the last of many operations, and not each.
 #![tactic(auto)]
 
-ghost use Rattle.std.specs.Prelude.{◌≡◌, true, ◌&&◌, ◌≤◌, pos, nat_abs, ◌*ℤ◌};
+ghost use Rattle.std.specs.Prelude.{◌≡◌, true, false, ◌&&◌, ◌≤◌, pos, nat_abs, ◌*ℤ◌, IfSome, IfNone};
 ghost use Rattle.std.specs.Int.Signed.{le_z, lt_z};
 ghost use Rattle.exact.specs.Div.{floor_div, ceil_div};
-ghost use Rattle.range.specs.Limit.{from_to, is_valid, both_valid, kept};
-ghost use Rattle.range.specs.Arithmetic.{lesser_of, greater_of, ends_sum, sum_of, ends_neg, neg_of, times_of};
+ghost use Rattle.range.specs.Limit.{from_to, is_valid, kept};
+ghost use Rattle.range.specs.Arithmetic.{ends_sum, sum_of, ends_neg, neg_of, times_of};
 ghost use Rattle.range.specs.Arithmetic.{spread_of, scaled_of, ends_product, product_of, inverse_of, ends_hull, hull_of};
 ghost use Rattle.range.specs.Steps.{Small, Shiftable, ends_by, sorted_of, scaled_within, ends_over, inv_above, inv_below, up_to, is_zero};
 
@@ -25,22 +25,17 @@ const DIVIDEND_LIMIT: i64 = 10_000 * LIMIT;
 // What 10,000 divides the greatest product to, that of the limit with itself.
 const PRODUCT_SHIFT: i64 = LIMIT / 10_000 * LIMIT;
 
-#[derive(Clone, Copy)]
+#[derive(Clone, Copy, PartialEq, Eq)]
 pub struct Range {
     pub low: i64,
     pub high: i64,
 }
 
-fn lesser(x: i64, y: i64) -> i64
-    ensures { result ≡ lesser_of x y }
-{
-    if x <= y { x } else { y }
-}
-
-fn greater(x: i64, y: i64) -> i64
-    ensures { result ≡ greater_of x y }
-{
-    if x <= y { y } else { x }
+// A range whose ends are in order and within the limit: the steps inside an operation take and give these, so that none of them tests it again.
+#[derive(Clone, Copy)]
+struct Checked {
+    range: Range,
+    ghost valid: { is_valid range ≡ true },
 }
 
 // x / d, rounded toward minus infinity, without a branch on the sign of x: the dividend is raised by k times the divisor, so that it is not below 0, and the
@@ -78,10 +73,7 @@ impl Range {
     pub fn new(low: i64, high: i64) -> Range
         ensures { result ≡ from_to low high }
     {
-        Range {
-            low: low,
-            high: high,
-        }
+        Range { low, high }
     }
 
     // Whether the ends are in order and within the limit.
@@ -89,20 +81,26 @@ impl Range {
         ensures { result ≡ is_valid self }
     {
         let whole = Range::WHOLE;
-        (whole.low <= self.low) & ((self.low <= self.high) & (self.high <= whole.high))
+        (whole.low <= self.low) & (self.low <= self.high) & (self.high <= whole.high)
     }
 
     // Whether both ends are 0: a product with such a range need not be worked out.
     pub fn is_zero(self) -> bool
         ensures { result ≡ is_zero self }
     {
-        (self.low == 0) & (self.high == 0)
+        self == Range::ZERO
     }
 
-    fn both_valid(self, other: Range) -> bool
-        ensures { result ≡ both_valid self other }
+    // This range as one that is tested, if it is one.
+    fn checked(self) -> Option<Checked>
+        ensures some { IfSome result (λ r. r.range ≡ self) }
+        ensures none { IfNone result (is_valid self ≡ false) }
     {
-        self.valid() & other.valid()
+        if self.valid() {
+            Some(Checked { range: self })
+        } else {
+            None
+        }
     }
 
     // This range, if it is one.
@@ -126,54 +124,29 @@ impl Range {
     pub fn sum(self, other: Range) -> Range
         ensures { result ≡ sum_of self other }
     {
-        if self.both_valid(other) {
-            self.ends_sum(other).kept()
-        } else {
-            Range::OVER
-        }
-    }
-
-    fn ends_negated(self) -> Range
-        requires { is_valid self ≡ true }
-        ensures { result ≡ ends_neg self }
-    {
-        Range {
-            low: -self.high,
-            high: -self.low,
-        }
+        let (Some(a), Some(b)) = (self.checked(), other.checked()) else {
+            return Range::OVER;
+        };
+        a.range.ends_sum(b.range).kept()
     }
 
     pub fn negated(self) -> Range
         ensures { result ≡ neg_of self }
     {
-        if self.valid() {
-            self.ends_negated()
-        } else {
-            Range::OVER
-        }
-    }
-
-    // k times each end.
-    fn ends_by(self, k: i64) -> Range
-        requires self_value { is_valid self ≡ true }
-        requires k_bound { nat_abs k ≤ 2000000000 }
-        ensures { result ≡ ends_by k self }
-    {
-        Range {
-            low: k * self.low,
-            high: k * self.high,
-        }
+        let Some(a) = self.checked() else {
+            return Range::OVER;
+        };
+        a.negated().range
     }
 
     // k times this range, k a whole number.
     pub fn times(self, k: u8) -> Range
         ensures { result ≡ times_of k self }
     {
-        if self.valid() {
-            self.ends_by(k as i64).kept()
-        } else {
-            Range::OVER
-        }
+        let Some(a) = self.checked() else {
+            return Range::OVER;
+        };
+        a.by(i64::from(k)).kept()
     }
 
     // The two ends in order.
@@ -181,8 +154,8 @@ impl Range {
         ensures { result ≡ sorted_of self }
     {
         Range {
-            low: lesser(self.low, self.high),
-            high: greater(self.low, self.high),
+            low: self.low.min(self.high),
+            high: self.low.max(self.high),
         }
     }
 
@@ -191,8 +164,8 @@ impl Range {
         ensures { result ≡ ends_hull self other }
     {
         Range {
-            low: lesser(self.low, other.low),
-            high: greater(self.high, other.high),
+            low: self.low.min(other.low),
+            high: self.high.max(other.high),
         }
     }
 
@@ -239,49 +212,13 @@ impl Range {
         (0 <= self.low) & (0 <= other.low)
     }
 
-    // The products of the low ends and of the high ends.
-    fn end_by_end(self, other: Range) -> Range
-        requires self_value { is_valid self ≡ true }
-        requires other_value { is_valid other ≡ true }
-        ensures { result ≡ from_to (self.low *ℤ other.low) (self.high *ℤ other.high) }
-    {
-        Range {
-            low: self.low * other.low,
-            high: self.high * other.high,
-        }
-    }
-
-    // The least and the greatest of the four end products. Of ranges that are not below 0 they are those of the low ends and of the high ends,
-    // which spares two products.
-    fn spread(self, other: Range) -> Range
-        requires self_value { is_valid self ≡ true }
-        requires other_value { is_valid other ≡ true }
-        ensures { result ≡ spread_of self other }
-    {
-        if self.both_above(other) {
-            return self.end_by_end(other);
-        }
-        let a = other.ends_by(self.low).sorted();
-        let b = other.ends_by(self.high).sorted();
-        a.ends_hull(b)
-    }
-
-    fn ends_product(self, other: Range) -> Range
-        requires self_value { is_valid self ≡ true }
-        requires other_value { is_valid other ≡ true }
-        ensures { result ≡ ends_product self other }
-    {
-        self.spread(other).scaled()
-    }
-
     pub fn product(self, other: Range) -> Range
         ensures { result ≡ product_of self other }
     {
-        if self.both_valid(other) {
-            self.ends_product(other).kept()
-        } else {
-            Range::OVER
-        }
+        let (Some(a), Some(b)) = (self.checked(), other.checked()) else {
+            return Range::OVER;
+        };
+        a.product(b).kept()
     }
 
     // n divided by each end, outward. n is not below 0, so that nothing is added.
@@ -296,50 +233,14 @@ impl Range {
         }
     }
 
-    // The inverse of a range above 0.
-    fn inverse_above(self) -> Range
-        requires self_value { is_valid self ≡ true }
-        requires low_value { lt_z (pos 0) self.low ≡ true }
-        ensures { result ≡ inv_above self }
-    {
-        let by = Range {
-            low: self.high,
-            high: self.low,
-        };
-        by.ends_over(100_000_000).kept()
-    }
-
-    // The inverse of a range below 0: that of the range with its signs changed, with its signs changed. So no dividend is below 0.
-    fn inverse_below(self) -> Range
-        requires self_value { is_valid self ≡ true }
-        requires pos_value { lt_z self.high (pos 0) ≡ true }
-        ensures { result ≡ inv_below self }
-    {
-        self.ends_negated().inverse_above().negated()
-    }
-
-    fn inverse_by_sign(self) -> Range
-        requires { is_valid self ≡ true }
-        ensures { result ≡ inverse_of self }
-    {
-        if 0 < self.low {
-            self.inverse_above()
-        } else if self.high < 0 {
-            self.inverse_below()
-        } else {
-            Range::OVER
-        }
-    }
-
     // 1 over this range: `OVER` where it holds 0.
     pub fn inverse(self) -> Range
         ensures { result ≡ inverse_of self }
     {
-        if self.valid() {
-            self.inverse_by_sign()
-        } else {
-            Range::OVER
-        }
+        let Some(a) = self.checked() else {
+            return Range::OVER;
+        };
+        a.inverse()
     }
 
     // The least range that holds both. Its ends are worked out before the test, which spares the processor a branch.
@@ -347,8 +248,94 @@ impl Range {
         ensures { result ≡ hull_of self other }
     {
         let both = self.ends_hull(other);
-        if self.both_valid(other) {
+        if self.valid() & other.valid() {
             both
+        } else {
+            Range::OVER
+        }
+    }
+}
+
+impl Checked {
+    fn negated(self) -> Checked
+        ensures { result.range ≡ ends_neg self.range }
+    {
+        Checked {
+            range: Range {
+                low: -self.range.high,
+                high: -self.range.low,
+            },
+        }
+    }
+
+    // k times each end.
+    fn by(self, k: i64) -> Range
+        requires { nat_abs k ≤ 2000000000 }
+        ensures { result ≡ ends_by k self.range }
+    {
+        Range {
+            low: k * self.range.low,
+            high: k * self.range.high,
+        }
+    }
+
+    // The products of the low ends and of the high ends.
+    fn end_by_end(self, other: Checked) -> Range
+        ensures { result ≡ from_to (self.range.low *ℤ other.range.low) (self.range.high *ℤ other.range.high) }
+    {
+        Range {
+            low: self.range.low * other.range.low,
+            high: self.range.high * other.range.high,
+        }
+    }
+
+    // The least and the greatest of the four end products. Of ranges that are not below 0 they are those of the low ends and of the high ends,
+    // which spares two products.
+    fn spread(self, other: Checked) -> Range
+        ensures { result ≡ spread_of self.range other.range }
+    {
+        if self.range.both_above(other.range) {
+            return self.end_by_end(other);
+        }
+        let a = other.by(self.range.low).sorted();
+        let b = other.by(self.range.high).sorted();
+        a.ends_hull(b)
+    }
+
+    // The ends of the product.
+    fn product(self, other: Checked) -> Range
+        ensures { result ≡ ends_product self.range other.range }
+    {
+        self.spread(other).scaled()
+    }
+
+    // The inverse of a range above 0.
+    fn inverse_above(self) -> Range
+        requires { lt_z (pos 0) self.range.low ≡ true }
+        ensures { result ≡ inv_above self.range }
+    {
+        let by = Range {
+            low: self.range.high,
+            high: self.range.low,
+        };
+        by.ends_over(100_000_000).kept()
+    }
+
+    // The inverse of a range below 0: that of the range with its signs changed, with its signs changed. So no dividend is below 0.
+    fn inverse_below(self) -> Range
+        requires { lt_z self.range.high (pos 0) ≡ true }
+        ensures { result ≡ inv_below self.range }
+    {
+        self.negated().inverse_above().negated()
+    }
+
+    fn inverse(self) -> Range
+        ensures { result ≡ inverse_of self.range }
+    {
+        if 0 < self.range.low {
+            self.inverse_above()
+        } else if self.range.high < 0 {
+            self.inverse_below()
         } else {
             Range::OVER
         }

@@ -18,8 +18,7 @@ const GREATEST_ROOT: u64 = 3_000_000_000;
 fn half_digits(x: u64) -> u32
     ensures { result ≤ 32 }
 {
-    let zeros = u64::leading_zeros(x);
-    if zeros <= 64 { (64 - zeros) / 2 } else { 0 }
+    (64 - x.leading_zeros()) / 2
 }
 
 // A first step of Newton's rule, from a power of 2 near the root of x, where a shift divides. The step errs upward, by up to 6%; a 32nd off,
@@ -40,18 +39,17 @@ fn near_root(x: u64) -> u64
     ensures { result ≤ 3000000000 }
 {
     let mut r = first_near(x);
-    let mut k: u64 = 0;
-    while k < 2 {
+    for _ in 0..2 {
         r = (r + x / r) / 2 + 1;
-        k += 1;
     }
     if 1_000_000 < r {
         r = (r + x / r) / 2 + 1;
     }
-    if r <= GREATEST_ROOT { r } else { GREATEST_ROOT }
+    r.min(GREATEST_ROOT)
 }
 
 // The first number from r on whose square is not below x.
+// A search: the number is the answer, and no index.
 fn root_above(x: u64, from: u64) -> u64
     requires x_bound { x ≤ 9000000000000000000 }
     requires from_bound { from ≤ 3000000000 }
@@ -65,6 +63,7 @@ fn root_above(x: u64, from: u64) -> u64
 }
 
 // From a number whose square is not below x down to the least one.
+// A search, too. The bounds stand in the clauses of four functions: each makes a number of another kind of the one before.
 fn least_root(x: u64, from: u64) -> u64
     requires le_x { 1 ≤ x }
     requires from_bound { from ≤ 3000000000 }
@@ -96,10 +95,7 @@ pub(crate) fn root_up(x: u64) -> u64
 pub fn around_root(x: u64, y: u64) -> Range
     ensures { result ≡ around_root x y }
 {
-    if x == 0 {
-        return Range::ZERO;
-    }
-    if y == 0 {
+    if x == 0 || y == 0 {
         return Range::ZERO;
     }
     if MOST_SQUARED / y < x {

@@ -6,21 +6,9 @@ ghost use Rattle.exact.specs.Div.{floor_div, ceil_div};
 ghost use Rattle.range.specs.Star.{magnitude_of, star_root, ends_star, is_half, star_of};
 
 use super::root::root_up;
-use super::{LIMIT, Range, ceil_div, floor_div, greater};
+use super::{LIMIT, Range, ceil_div, floor_div};
 
 const HALF: i64 = LIMIT / 2;
-
-// R: the square root of (a − b)² + 4·m², rounded up. It is how far the two eigenvalues are apart.
-fn star_root(a: i64, b: i64, m: i64) -> i64
-    requires a_bound { nat_abs a ≤ 1000000000 }
-    requires b_bound { nat_abs b ≤ 1000000000 }
-    requires m_bound { nat_abs m ≤ 1000000000 }
-    ensures value { result ≡ star_root a b m }
-    ensures result_bound { nat_abs result ≤ 3000000000 }
-{
-    let d = a - b;
-    root_up((d * d + 4 * (m * m)) as u64) as i64
-}
 
 // Two ends and R come to 5,000,000,000 at the most, either sign; twice this is more.
 const SHIFT: i64 = 3_000_000_000;
@@ -39,24 +27,40 @@ fn half_up(x: i64) -> i64
     ceil_div(x, 2, SHIFT)
 }
 
-// Half of a + b − R, rounded down.
-fn low_end(a: i64, b: i64, m: i64) -> i64
-    requires a_bound { nat_abs a ≤ 1000000000 }
-    requires b_bound { nat_abs b ≤ 1000000000 }
-    requires m_bound { nat_abs m ≤ 1000000000 }
-    ensures { result ≡ floor_div (a +ℤ b -ℤ star_root a b m) 2 }
-{
-    half_down(a + b - star_root(a, b, m))
+// The rows a, m and m, b: numbers of at most half the limit, so that all that is worked out of them fits 64 bits.
+#[derive(Clone, Copy)]
+struct Matrix {
+    a: i64,
+    b: i64,
+    m: i64,
+    ghost a_half: { nat_abs a ≤ 1000000000 },
+    ghost b_half: { nat_abs b ≤ 1000000000 },
+    ghost m_half: { nat_abs m ≤ 1000000000 },
 }
 
-// Half of a + b + R, rounded up.
-fn high_end(a: i64, b: i64, m: i64) -> i64
-    requires a_bound { nat_abs a ≤ 1000000000 }
-    requires b_bound { nat_abs b ≤ 1000000000 }
-    requires m_bound { nat_abs m ≤ 1000000000 }
-    ensures { result ≡ ceil_div (a +ℤ b +ℤ star_root a b m) 2 }
-{
-    half_up(a + b + star_root(a, b, m))
+impl Matrix {
+    // R: the square root of (a − b)² + 4·m², rounded up. It is how far the two eigenvalues are apart.
+    fn root(self) -> i64
+        ensures value { result ≡ star_root self.a self.b self.m }
+        ensures result_bound { nat_abs result ≤ 3000000000 }
+    {
+        let d = self.a - self.b;
+        root_up((d * d + 4 * (self.m * self.m)) as u64) as i64
+    }
+
+    // The lesser eigenvalue: half of a + b − R, rounded down.
+    fn least(self) -> i64
+        ensures { result ≡ floor_div (self.a +ℤ self.b -ℤ star_root self.a self.b self.m) 2 }
+    {
+        half_down(self.a + self.b - self.root())
+    }
+
+    // The greater one: half of a + b + R, rounded up.
+    fn greatest(self) -> i64
+        ensures { result ≡ ceil_div (self.a +ℤ self.b +ℤ star_root self.a self.b self.m) 2 }
+    {
+        half_up(self.a + self.b + self.root())
+    }
 }
 
 impl Range {
@@ -72,7 +76,7 @@ impl Range {
         requires { is_half self ≡ true }
         ensures { result ≡ magnitude_of self }
     {
-        greater(-self.low, self.high)
+        (-self.low).max(self.high)
     }
 
     fn ends_star(self, other: Range, off: Range) -> Range
@@ -82,9 +86,19 @@ impl Range {
         ensures { result ≡ ends_star self other off }
     {
         let m = off.largest_magnitude();
+        let lows = Matrix {
+            a: self.low,
+            b: other.low,
+            m,
+        };
+        let highs = Matrix {
+            a: self.high,
+            b: other.high,
+            m,
+        };
         Range {
-            low: low_end(self.low, other.low, m),
-            high: high_end(self.high, other.high, m),
+            low: lows.least(),
+            high: highs.greatest(),
         }
     }
 

@@ -3,19 +3,19 @@
 // by the offset at which they begin, so that one list may hold many rows. They are read where they lie, and each once.
 ghost use Rattle.std.specs.Prelude.{◌≡◌, true, ◌<◌, pos, nat_abs, get_or};
 ghost use Rattle.std.specs.Int.Signed.{le_z};
-ghost use Rattle.range.specs.Limit.{is_valid};
 ghost use Rattle.range.specs.Arithmetic.{sum_of, ends_product};
 ghost use Rattle.range.specs.Sums.{at, ranges_from, products_of, largest_square, squares_of, root_of};
 ghost use Rattle.range.specs.Steps.{EightSquares, with_square, rounded_up};
 
-use super::Range;
 use super::root::around_root;
+use super::{Checked, Range};
 
 // The number of a list at the offset m; 0 past its end.
+// 0, and no option, as `ranges_from` of the specs has it.
 fn number_at(t: &[i32], m: usize) -> i64
     ensures { result ≡ get_or t.now m (pos 0) }
 {
-    if m < t.len() { t[m] as i64 } else { 0 }
+    t.get(m).map_or(0, |x| i64::from(*x))
 }
 
 // The range of the factor a, of the eight that begin at the offset i.
@@ -31,6 +31,7 @@ fn range_at(t: &[i32], i: u16, a: usize) -> Range
 }
 
 // An exact sum of squares. Eight squares may not fit 64 bits, so that their quotients and their remainders by 10,000 are added up apart.
+// `plus` does not keep `EightSquares`, so that it is no invariant.
 #[derive(Clone, Copy)]
 struct Squares {
     whole: u64,
@@ -52,12 +53,11 @@ impl Squares {
     }
 
     // The sum with the largest square of a range more. Many slopes are zero, and are spared.
-    fn with(self, r: Range) -> Squares
-        requires eight_squares { EightSquares self }
-        requires r_value { is_valid r ≡ true }
-        ensures { result ≡ with_square self (nat_abs (largest_square r)) }
+    fn with(self, r: Checked) -> Squares
+        requires { EightSquares self }
+        ensures { result ≡ with_square self (nat_abs (largest_square r.range)) }
     {
-        if r.is_zero() {
+        if r.range.is_zero() {
             return self;
         }
         self.plus(r.largest_square())
@@ -72,27 +72,26 @@ impl Squares {
     }
 }
 
-impl Range {
+impl Checked {
     // The larger of the squares of the ends.
     fn largest_square(self) -> u64
-        requires { is_valid self ≡ true }
-        ensures { result ≡ nat_abs (largest_square self) }
+        ensures { result ≡ nat_abs (largest_square self.range) }
     {
         self.end_by_end(self).sorted().magnitude()
     }
 
     // The ends of a product in a sum, where many ranges are zero.
-    fn slopes_product(self, other: Range) -> Range
-        requires self_value { is_valid self ≡ true }
-        requires other_value { is_valid other ≡ true }
-        ensures { result ≡ ends_product self other }
+    fn slopes_product(self, other: Checked) -> Range
+        ensures { result ≡ ends_product self.range other.range }
     {
-        if self.is_zero() | other.is_zero() {
+        if self.range.is_zero() | other.range.is_zero() {
             return Range::ZERO;
         }
-        self.ends_product(other)
+        self.product(other)
     }
+}
 
+impl Range {
     // The high end of a range that is not below 0.
     fn magnitude(self) -> u64
         requires { le_z (pos 0) self.high ≡ true }
@@ -112,20 +111,18 @@ impl Range {
         let mut left = Squares::NONE;
         let mut right = Squares::NONE;
         let mut rest = set;
-        let mut a: usize = 0;
-        while rest != 0 {
+        // By the factor, of which the set and the rows are asked.
+        for a in 0..8 {
             if rest % 2 == 1 {
-                let g = range_at(t, i, a);
-                let h = range_at(t, j, a);
-                if !g.both_valid(h) {
+                let (g, h) = (range_at(t, i, a), range_at(t, j, a));
+                let (Some(g), Some(h)) = (g.checked(), h.checked()) else {
                     return Range::OVER;
-                }
+                };
                 products = products.ends_sum(g.slopes_product(h));
                 left = left.with(g);
                 right = right.with(h);
             }
-            rest = rest / 2;
-            a += 1;
+            rest /= 2;
         }
         products
             .kept()
@@ -138,17 +135,15 @@ impl Range {
     {
         let mut total = Squares::NONE;
         let mut rest = set;
-        let mut a: usize = 0;
-        while rest != 0 {
+        // By the factor, of which the set and the rows are asked.
+        for a in 0..8 {
             if rest % 2 == 1 {
-                let g = range_at(t, i, a);
-                if !g.valid() {
+                let Some(g) = range_at(t, i, a).checked() else {
                     return Range::OVER;
-                }
+                };
                 total = total.with(g);
             }
-            rest = rest / 2;
-            a += 1;
+            rest /= 2;
         }
         Range {
             low: 0,

@@ -5,72 +5,51 @@
 use range::Range;
 use std::io;
 
-fn hold(out: &impl Print, edge: &str, found: Range, low: i64, high: i64) -> io::Result<()> {
-    if (found.low == low) & (found.high == high) {
-        println!(out; "{edge}: as it must be")
+// What is divided by 10,000, and its two ends; 1 and 0 are those of what is no range: an end has passed the limit. No rating comes to the last two.
+const SCALED: [(i64, i64, i64); 15] = [
+    (-20_000_000_000_001, 1, 0),
+    (-20_000_000_000_000, -2_000_000_000, -2_000_000_000),
+    (-10_001, -2, -1),
+    (-10_000, -1, -1),
+    (-9_999, -1, 0),
+    (-1, -1, 0),
+    (0, 0, 0),
+    (1, 0, 1),
+    (9_999, 0, 1),
+    (10_000, 1, 1),
+    (10_001, 1, 2),
+    (20_000_000_000_000, 2_000_000_000, 2_000_000_000),
+    (20_000_000_000_001, 1, 0),
+    (-9_223_372_036_854_775_808, 1, 0),
+    (9_223_372_036_854_775_807, 1, 0),
+];
+
+// What 100,000,000 is divided by, and the two ends.
+const INVERTED: [(i64, i64, i64); 6] = [
+    (-2_000_000_000, -1, 0),
+    (-3, -33_333_334, -33_333_333),
+    (-1, -100_000_000, -100_000_000),
+    (1, 100_000_000, 100_000_000),
+    (3, 33_333_333, 33_333_334),
+    (2_000_000_000, 0, 1),
+];
+
+fn verdict(found: Range, low: i64, high: i64) -> &'static str {
+    if found == Range::new(low, high) {
+        "as it must be"
     } else {
-        println!(out; "{edge}: missed")
+        "missed"
     }
 }
 
-// x divided by 10,000.
-fn scale(out: &impl Print, edge: &str, x: i64, low: i64, high: i64) -> io::Result<()> {
-    hold(out, edge, Range::new(x, x).scaled_within(), low, high)
-}
-
-// 100,000,000 divided by x.
-fn invert(out: &impl Print, edge: &str, x: i64, low: i64, high: i64) -> io::Result<()> {
-    hold(out, edge, Range::new(x, x).inverse(), low, high)
-}
-
-fn scale_all(out: &impl Print) -> io::Result<()> {
-    // 1 and 0 are the ends of what is no range: an end has passed the limit
-    scale(out, "-20000000000001", -20_000_000_000_001, 1, 0)?;
-    scale(
-        out,
-        "-20000000000000",
-        -20_000_000_000_000,
-        -2_000_000_000,
-        -2_000_000_000,
-    )?;
-    scale(out, "-10001", -10_001, -2, -1)?;
-    scale(out, "-10000", -10_000, -1, -1)?;
-    scale(out, "-9999", -9_999, -1, 0)?;
-    scale(out, "-1", -1, -1, 0)?;
-    scale(out, "0", 0, 0, 0)?;
-    scale(out, "1", 1, 0, 1)?;
-    scale(out, "9999", 9_999, 0, 1)?;
-    scale(out, "10000", 10_000, 1, 1)?;
-    scale(out, "10001", 10_001, 1, 2)?;
-    scale(
-        out,
-        "20000000000000",
-        20_000_000_000_000,
-        2_000_000_000,
-        2_000_000_000,
-    )?;
-    scale(out, "20000000000001", 20_000_000_000_001, 1, 0)?;
-    // no rating comes to these
-    scale(
-        out,
-        "-9223372036854775808",
-        -9_223_372_036_854_775_808,
-        1,
-        0,
-    )?;
-    scale(out, "9223372036854775807", 9_223_372_036_854_775_807, 1, 0)
-}
-
-fn invert_all(out: &impl Print) -> io::Result<()> {
-    invert(out, "100000000 by -2000000000", -2_000_000_000, -1, 0)?;
-    invert(out, "100000000 by -3", -3, -33_333_334, -33_333_333)?;
-    invert(out, "100000000 by -1", -1, -100_000_000, -100_000_000)?;
-    invert(out, "100000000 by 1", 1, 100_000_000, 100_000_000)?;
-    invert(out, "100000000 by 3", 3, 33_333_333, 33_333_334)?;
-    invert(out, "100000000 by 2000000000", 2_000_000_000, 0, 1)
-}
-
 fn main(rt: HostRuntime) -> io::Result<()> {
-    scale_all(&rt)?;
-    invert_all(&rt)
+    for (x, low, high) in SCALED {
+        let found = Range::new(x, x).scaled_within();
+        println!(rt; "{x}: {}", verdict(found, low, high))?;
+    }
+    for (x, low, high) in INVERTED {
+        let found = Range::new(x, x).inverse();
+        println!(rt; "100000000 by {x}: {}", verdict(found, low, high))?;
+    }
+    Ok(())
 }

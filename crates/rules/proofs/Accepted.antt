@@ -20,7 +20,7 @@ use Rattle.rules.specs.declared.Line.{Line}
 use Rattle.rules.specs.declared.Refusal.{Refusal}
 use Rattle.rules.specs.declared.Refusal.TheVariants.{NoCodelist, RangeCount}
 use Rattle.rules.specs.declared.Limits.{Limits}
-use Rattle.rules.specs.declared.Rating.{Rating}
+use Rattle.rules.specs.InFull.{Rating}
 use Rattle.rules.specs.Table.{factor_row, line_of}
 use Rattle.rules.specs.Run.{row_of, Lines, through, stopped, run_ops, factor_lines, always_bent, lines_of, operations}
 use Rattle.rules.specs.Rate.{last, limits_of, rated, refused, pairs, finished, first_bad, rate_ranges, rate_of}

@@ -25,7 +25,7 @@ use Rattle.range.proofs.Unlimited.{limited-valid}
 use Rattle.rules.specs.declared.Line.{Line}
 use Rattle.rules.specs.declared.Refusal.{Refusal}
 use Rattle.rules.specs.declared.Limits.{Limits}
-use Rattle.rules.specs.declared.Rating.{Rating}
+use Rattle.rules.specs.InFull.{Rating}
 use Rattle.rules.specs.Formula.{Formula, given, sticky, unlimited, produced}
 use Rattle.rules.specs.Sets.{all_of}
 use Rattle.rules.specs.Table.{Row, factor_row, extended, line_of}

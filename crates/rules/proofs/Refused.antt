@@ -14,9 +14,9 @@ use Rattle.codelist.specs.Codelist.{Ratable, ratable}
 use Rattle.codelist.proofs.Ratable.{decides}
 use Rattle.rules.specs.declared.Refusal.{Refusal}
 use Rattle.rules.specs.declared.Refusal.TheVariants.{NoCodelist, RangeCount, BadRange, Divisor, Overflow}
-use Rattle.rules.specs.declared.Outcome.TheVariants.{Refused}
+use Rattle.rules.specs.InFull.{Refused}
 use Rattle.rules.specs.declared.Limits.{Limits}
-use Rattle.rules.specs.declared.Rating.{Rating}
+use Rattle.rules.specs.InFull.{Rating}
 use Rattle.rules.specs.Run.{Lines, through, stopped, factor_lines, always_bent, operations, lines_of}
 use Rattle.rules.specs.Rate.{limits_of, last, rated, refused, pairs, finished, first_bad, rate_ranges, rate_of}
 use Rattle.rules.specs.Refused.{range_of, Bad, Runnable, RefusedFor, RefusedExactly}

@@ -17,7 +17,7 @@ use Rattle.range.specs.Power.{chain, ups_within, pow_above, pow_below, pow_acros
 use Rattle.range.specs.Sums.{has, sum_over, valid_below, ends_products, products_of, largest_square, square_sum, squares_of, root_sum, root_of}
 use Rattle.range.specs.Star.{magnitude_of, star_root, ends_star, is_half, star_of}
 use Rattle.rules.specs.declared.Refusal.TheVariants.{NoCodelist, Divisor, Overflow}
-use Rattle.rules.specs.declared.Rating.{Rating}
+use Rattle.rules.specs.InFull.{Rating}
 use Rattle.rules.specs.Sets.{apart, is_single, only}
 use Rattle.rules.specs.Table.{factor_row, add_row, addc_row, mulc_row, mul_row, pow_row, inv_row, eight, line_of}
 use Rattle.rules.specs.Run.{row_of, inverts_zero, within, run_ops, factor_lines, bent_in, lines_of}

@@ -3,6 +3,7 @@ pub mod Formula
 pub mod Sets
 pub mod Table
 pub mod Run
+pub mod InFull
 pub mod Rate
 pub mod Overflow
 pub mod TableTwo

@@ -13,7 +13,7 @@ use Rattle.range.specs.Sums.{at}
 use Rattle.rules.specs.declared.Line.{Line}
 use Rattle.rules.specs.declared.Refusal.TheVariants.{NoCodelist, RangeCount, BadRange, Divisor, Overflow}
 use Rattle.rules.specs.declared.Limits.{Limits}
-use Rattle.rules.specs.declared.Rating.{Rating}
+use Rattle.rules.specs.InFull.{Rating}
 use Rattle.rules.specs.Formula.{given, unlimited}
 use Rattle.rules.specs.Sets.{all_of}
 use Rattle.rules.specs.Table.{Row, factor_row, extended, eight}

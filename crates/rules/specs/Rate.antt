@@ -1,6 +1,8 @@
 -- Rating: refusals 8 to 12 in their order, and the result. 01, "Refusals that come from the state", "Rating: 10, 8, 9 (lowest factor), then
 -- codelist lines in order, 11 before 12", and "What the engine takes and gives".
 use Rattle.std.specs.Prelude.{cond, List, [], ◌∷◌, ℕ, suc, zero, ◌*◌, eqb, ℤ, length}
+use Rattle.std.specs.declared.result.Result.{Result}
+use Rattle.std.specs.declared.result.Result.TheVariants.{Ok, Err}
 use Rattle.codelist.specs.declared.Codelist.{Codelist}
 use Rattle.codelist.specs.Codelist.{ratable}
 use Rattle.range.specs.declared.Range.{Range}
@@ -8,9 +10,9 @@ use Rattle.range.specs.Limit.{from_to, zero_range, is_valid}
 use Rattle.rules.specs.declared.Line.{Line}
 use Rattle.rules.specs.declared.Refusal.{Refusal}
 use Rattle.rules.specs.declared.Refusal.TheVariants.{NoCodelist, RangeCount, BadRange, Divisor, Overflow}
-use Rattle.rules.specs.declared.Outcome.TheVariants.{Rated, Refused}
+use Rattle.rules.specs.InFull.{Rated, Refused}
 use Rattle.rules.specs.declared.Limits.{Limits}
-use Rattle.rules.specs.declared.Rating.{Rating}
+use Rattle.rules.specs.InFull.{Rating}
 use Rattle.rules.specs.Formula.{given, sticky}
 use Rattle.rules.specs.Sets.{none, all_of}
 use Rattle.rules.specs.Table.{extended, eight}
@@ -71,6 +73,11 @@ no_limits = record {
 
 abbrev pub refused : Refusal → Rating
 refused r = record { outcome = Refused r; limits = no_limits }
+
+-- The code's answer in full: "A refusal carries number and place, every other field is 0"
+abbrev pub in_full : Result Limits Refusal → Rating
+in_full (Ok l) = rated l
+in_full (Err r) = refused r
 
 -- ════ rating ════
 

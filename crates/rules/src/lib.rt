@@ -1,10 +1,11 @@
-// The types of rating: what the rules of 01 work out for each codelist line, and the answer.
+// The types of rating: what the rules of 01 work out for each codelist line, and the answer: the limits, or a refusal.
 #![tactic(auto)]
 
 use range::Range;
 
 // A codelist line, worked out over the ranges of the factors. A set of factors is a mask: the factor a, counted from 0, is the bit a.
-#[derive(Clone, Copy)]
+// The specs alone use it; `Limits` has the full bend besides.
+#[derive(Clone, Copy, PartialEq, Eq)]
 pub struct Line {
     // 01's V.
     pub value: Range,
@@ -19,7 +20,7 @@ pub struct Line {
 }
 
 // Why ranges are not rated: 01's refusals 8 to 12.
-#[derive(Clone, Copy)]
+#[derive(Clone, Copy, PartialEq, Eq)]
 pub enum Refusal {
     // 10: there is no codelist.
     NoCodelist,
@@ -33,14 +34,8 @@ pub enum Refusal {
     Overflow(u8),
 }
 
-#[derive(Clone, Copy)]
-pub enum Outcome {
-    Rated,
-    Refused(Refusal),
-}
-
 // The limits of a class: 01's result.
-#[derive(Clone, Copy)]
+#[derive(Clone, Copy, PartialEq, Eq)]
 pub struct Limits {
     pub value: Range,
     pub gradient: [Range; 8],
@@ -61,11 +56,4 @@ impl Limits {
         spectrum: Range::ZERO,
         full: Range::ZERO,
     };
-}
-
-// The answer. Where it is a refusal, every field of the limits is 0.
-#[derive(Clone, Copy)]
-pub struct Rating {
-    pub outcome: Outcome,
-    pub limits: Limits,
 }

@@ -7,8 +7,5 @@ use std::io;
 fn main(rt: HostRuntime) -> io::Result<()> {
     let mut input = [0u8; 8193];
     let n = streams::read_full(&mut rt.stdin(), &mut input)?;
-    let t = sisters_text::answer(&input[..n]);
-    let bytes = t.bytes;
-    let len = t.len;
-    rt.write_all(&bytes[..len])
+    rt.write_all(sisters_text::answer(&input[..n]).as_slice())
 }

@@ -13,8 +13,8 @@ use borrow.Author.Tests.{le-leb, ne_eqb}
 use Rattle.range.specs.declared.Range.{Range}
 use Rattle.range.specs.Limit.{from_to}
 use Rattle.engine.specs.declared.Engine.{Engine}
-use Rattle.engine.specs.declared.Outcome.{Outcome}
-use Rattle.engine.specs.declared.Outcome.TheVariants.{Accepted, Refused}
+use Rattle.engine.specs.InFull.{Outcome}
+use Rattle.engine.specs.InFull.{Accepted, Refused}
 use Rattle.engine.specs.declared.Refusal.{Refusal}
 use Rattle.engine.specs.Engine.{empty_engine, loaded_of, rated_of}
 use Rattle.engine.proofs.Demands.{demands}
@@ -24,7 +24,7 @@ use Rattle.text.specs.Output.{limits_text, refusal_text}
 use Rattle.text.specs.Answer as rate
 use Rattle.text.specs.Answer.{unless_refused}
 use Rattle.text.proofs.Faithful.{faithful}
-use Rattle.increments.specs.declared.Difference.{Difference}
+use Rattle.increments.specs.InFull.{Difference}
 use Rattle.increments.specs.Call as Call
 use Rattle.increments.specs.Call.{boats_of, sisters_of}
 use Rattle.sisters_text.specs.Input.{boats, boats_in}

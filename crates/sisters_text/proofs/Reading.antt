@@ -1,21 +1,24 @@
--- The bytes after the numerals of the boat lines, and the loop over these: its invariant, and what each way through a turn is of `fields`. Assumes
--- nothing.
-use Prim.Native.Nat.{ℕ, suc, zero, ◌+◌, ◌-◌, ◌*◌, ◌≤◌, ◌<◌}
+-- The bytes after the numerals of the boat lines, and the loop over these: what each way through a turn is of `fields`. Assumes nothing.
+use Prim.Native.Nat.{ℕ, suc, zero, ◌+◌, ◌-◌, ◌*◌, ◌%◌, ◌≤◌, ◌<◌}
 use mathlib.Core.List.{List, [], ◌∷◌, ◌++◌}
 use mathlib.Core.Path.{◌≡◌, refl, sym, ap, ◌∙◌}
 use native.Mathlib.Decide.{dec_lt}
+use native.Mathlib.Nat.{mod-eq_of_lt, mod_self, add-mod_left}
 use native.Mathlib.Numerals.{add-one}
 use native.Mathlib.Omega.{arith}
-use lib.IntN.{ℤ, pos}
-use lib.ListN.{length, get_or, take, drop, set, replicate, length-append, length-set, drop_of_length-le, get_or-append}
+use Rattle.std.specs.Bool.{then_some}
+use borrow.Author.Tests.{ne_eqb}
+use lib.Dec.{eqb}
+use lib.IntN.{ℤ}
+use lib.ListN.{length, get_or, take, drop, set, length-append, drop_of_length-le, get_or-append}
 use lib.Seq.{drop-cons, take-suc-set, get_or-append-add}
 use Rattle.codelist.specs.declared.Numeral.{Numeral}
 use Rattle.codelist.specs.Load.{value_of, saturated}
 use Rattle.codelist.specs.Read.{good, bad, field}
 use Rattle.codelist.proofs.Laws.{saturated-few}
 use Rattle.codelist.proofs.LineTexts.{field-sound}
-use Rattle.text.proofs.Reading.{unended, left-some}
-use Rattle.sisters_text.specs.Input.{byte_after, line_ends, boat_ends, fields, whole_of, boats_in}
+use Rattle.sisters_text.specs.Views.{values_of}
+use Rattle.sisters_text.specs.Input.{byte_after, line_ends, boat_ends, fields, whole_of}
 
 -- ---- the bytes after the numerals
 line-length : (n : ℕ) → length (line_ends n) ≡ n
@@ -47,67 +50,57 @@ module _ (n a k : ℕ) where
       ap (λ (i : ℕ). get_or (line_ends n ++ line_ends n) i 0) (sym m) ∙ get_or-append-add (line_ends n) (line_ends n) (a - n) 0
       ∙ line-byte n (a - n) k (omega (arith, e, h))
 
-pub byte_last : (n a : ℕ) → a + 1 ≡ n → 10 ≡ get_or (boat_ends n) a 0
-byte_last n a e = sym (first_byte n a 0 e)
+-- the first and the last of n whole lines
+module _ (n a : ℕ) (h : a < 2 * n) where
+  wrong : (k : ℕ) → 0 < k → k < n → k % n ≡ 0 → ⊥
+  wrong k p q z = let m = sym (mod-eq_of_lt q) ∙ z in omega (arith, m)
 
-pub byte-end : (n a : ℕ) → a + 1 ≡ 2 * n → 10 ≡ get_or (boat_ends n) a 0
-byte-end n a e = sym (second-byte n a 0 (omega (arith, e)) (omega (arith, e)))
+  pub byte-last : (a + 1) % n ≡ 0 → 10 ≡ get_or (boat_ends n) a 0
+  byte-last e = go (dec_lt (a + 1) n) (dec_lt n (a + 1)) (dec_lt (a + 1) (2 * n))
+    where
+      go : Dec (a + 1 < n) → Dec (n < a + 1) → Dec (a + 1 < 2 * n) → 10 ≡ get_or (boat_ends n) a 0
+      go (yes p) q r = absurd (wrong (a + 1) (omega arith) p e)
+      go (no p) (no q) r = sym (first_byte n a 0 (omega arith))
+      go (no p) (yes q) (no r) = sym (second-byte n a 0 (omega arith) (omega arith))
+      go (no p) (yes q) (yes r) =
+          let m : n + (a + 1 - n) ≡ a + 1 = omega arith in
+          absurd (wrong (a + 1 - n) (omega arith) (omega arith) (sym (add-mod_left n (a + 1 - n)) ∙ rw m e))
 
-pub byte-tab : (n a : ℕ) → a < 2 * n → ¬ (a + 1 ≡ n) → ¬ (a + 1 ≡ 2 * n) → 9 ≡ get_or (boat_ends n) a 0
-byte-tab n a h p q = go (dec_lt a n)
-  where
-    go : Dec (a < n) → 9 ≡ get_or (boat_ends n) a 0
-    go (yes l) = sym (first_byte n a (suc (n - 2 - a)) (omega (arith, l, p)))
-    go (no l) = sym (second-byte n a (suc (2 * n - 2 - a)) (omega (arith, l, h, q)) (omega (arith, l)))
+  pub byte-inner : ¬ ((a + 1) % n ≡ 0) → 9 ≡ get_or (boat_ends n) a 0
+  byte-inner d = go (dec_lt a n)
+    where
+      p : ¬ (a + 1 ≡ n)
+      p m = d (rw m (mod_self n))
 
--- ---- the loop
+      q : ¬ (a + 1 ≡ n + n)
+      q m = d (rw m (add-mod_left n n ∙ mod_self n))
 
--- With a numbers read, at the place `at`: what is left to read is what was to be read at the start
-pub record Going (s : List ℕ) (from n : ℕ) (xs : List ℤ) (at a : ℕ) : Type 0 where
-  pub few : a ≤ 2 * n
-  pub whole : length xs ≡ 16
-  pub same : fields (drop a (boat_ends n)) (take a xs) (drop at s) ≡ fields (boat_ends n) [] (drop from s)
+      go : Dec (a < n) → 9 ≡ get_or (boat_ends n) a 0
+      go (yes l) = sym (first_byte n a (suc (n - 2 - a)) (omega (arith, l, p)))
+      go (no l) = sym (second-byte n a (suc (2 * n - 2 - a)) (omega (arith, l, h, q)) (omega (arith, l)))
 
-pub start : (s : List ℕ) (from n : ℕ) → Going s from n (replicate 16 (pos 0)) from 0
-start s from n = record { few = omega arith; whole = refl; same = refl }
+-- ---- the loop: a numbers are read into xs, and e is the byte after the next one
+module _ (n a : ℕ) (xs : List ℤ) (s : List ℕ) (e : ℕ) (h : a < 2 * n) (b : e < 256) (p : e ≡ get_or (boat_ends n) a 0) where
+  next-end : drop a (boat_ends n) ≡ e ∷ drop (a + 1) (boat_ends n)
+  next-end = rw (add-one a, p) (drop-cons (boat_ends n) a 0 (omega (arith, h, ends-length n)))
 
--- the ways out of the loop, and the next turn
-module _ (s : List ℕ) (from n : ℕ) (xs : List ℤ) (at a : ℕ) (g : Going s from n xs at a) where
-  next-end : (e : ℕ) → a < 2 * n → e ≡ get_or (boat_ends n) a 0 → drop a (boat_ends n) ≡ e ∷ drop (a + 1) (boat_ends n)
-  next-end e h p = rw (add-one a, p) (drop-cons (boat_ends n) a 0 (omega (arith, h, ends-length n)))
-
-  pub leave-bad : (e : ℕ) → a < 2 * n → e ≡ get_or (boat_ends n) a 0 → field e (drop at s) ≡ bad → [] ≡ boats_in n (drop from s)
-  unfolding boats_in fields
-  leave-bad e h p f =
-      let z : fields (drop a (boat_ends n)) (take a xs) (drop at s) ≡ bad = rw (next-end e h p, f) in
-      ap whole_of (sym z ∙ g.same)
-
-  pub turn : (e : ℕ) (w : Numeral) (x : ℤ) (t : ℕ) → n ≤ 8 → a < 2 * n → e < 256 → e ≡ get_or (boat_ends n) a 0
-      → field e (drop at s) ≡ good w (drop t s) → x ≡ saturated w → Going s from n (set xs a x) t (a + 1)
+  pub fields-bad : bad ≡ field e s → bad ≡ fields (drop a (boat_ends n)) (take a xs) s
   unfolding fields
-  turn e w x t m h b p f v =
-      let u : x ≡ value_of w = v ∙ saturated-few w (field-sound e (drop at s) w (drop t s) b f).fine.few in
-      let more : take (a + 1) (set xs a x) ≡ take a xs ++ (x ∷ []) = rw (add-one a) (take-suc-set xs a x (omega (arith, m, h, g.whole))) in
-      let z : fields (drop a (boat_ends n)) (take a xs) (drop at s) ≡ fields (drop (a + 1) (boat_ends n)) (take a xs ++ (x ∷ [])) (drop t s)
-      = rw (next-end e h p, f, u) in
-      record {
-        few = omega (arith, h);
-        whole = length-set xs a x ∙ g.whole;
-        same = ap (λ (ys : List ℤ). fields (drop (a + 1) (boat_ends n)) ys (drop t s)) more ∙ sym z ∙ g.same;
-      }
+  fields-bad f = rw (next-end, ← f)
 
-  module _ (h : 2 * n ≤ a) where
-    done : good (take a xs) (drop at s) ≡ fields (boat_ends n) [] (drop from s)
-    unfolding fields
-    done = let z = drop_of_length-le (boat_ends n) {i = a} (omega (arith, h, ends-length n)) in (rw z at g.same)
+  pub fields-turn : (w : Numeral) (x : ℤ) (t : List ℕ) → n ≤ 8 → length xs ≡ 16 → good w t ≡ field e s → x ≡ saturated w
+      → fields (drop (a + 1) (boat_ends n)) (take (a + 1) (set xs a x)) t ≡ fields (drop a (boat_ends n)) (take a xs) s
+  unfolding fields
+  fields-turn w x t m l f q =
+      let v : x ≡ value_of w = q ∙ saturated-few w (field-sound e s w t b (sym f)).fine.few in
+      let more : take (a + 1) (set xs a x) ≡ take a xs ++ (x ∷ []) = rw (add-one a) (take-suc-set xs a x (omega (arith, m, h, l))) in
+      rw (next-end, ← f, more, v)
 
-    pub leave-more : at < length s → [] ≡ boats_in n (drop from s)
-    unfolding boats_in
-    leave-more l = sym (unended (drop at s) (take a xs) [] (left-some s at l)) ∙ ap whole_of done
+pub fields-done : (n a : ℕ) (xs : List ℤ) (s : List ℕ) → a ≡ 2 * n → good (take (2 * n) xs) s ≡ fields (drop a (boat_ends n)) (take a xs) s
+unfolding fields
+fields-done n a xs s e = let z : drop (2 * n) (boat_ends n) ≡ [] = drop_of_length-le (boat_ends n) {i = 2 * n} (omega (arith, ends-length n)) in rw (e, z)
 
-    pub leave-done : length s ≤ at → take (2 * n) xs ≡ boats_in n (drop from s)
-    unfolding boats_in
-    leave-done l =
-        let m : 2 * n ≡ a = omega (arith, h, g.few) in
-        let z = drop_of_length-le s {i = at} l in
-        ap (λ (k : ℕ). take k xs) m ∙ ap whole_of (rw z at done)
+-- nothing may be left of the text
+pub read : (n : ℕ) (s : List ℕ) (xs : List ℤ) → values_of n (then_some (eqb (length s) 0) xs) ≡ whole_of (good (take (2 * n) xs) s)
+read n [] xs = refl
+read n (b ∷ s) xs = rw (ne_eqb (suc (length s)) 0 (λ e. omega (arith, e)))

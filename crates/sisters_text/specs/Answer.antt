@@ -4,7 +4,7 @@ use Rattle.std.proofs.Math.Option.{Option, none, some}
 use Rattle.codelist.specs.declared.Refusal.TheVariants.{TooLong}
 use Rattle.rules.specs.declared.Refusal.TheVariants.{RangeCount}
 use Rattle.engine.specs.declared.Engine.{Engine}
-use Rattle.engine.specs.declared.Loading.{Loading}
+use Rattle.engine.specs.InFull.{Loading}
 use Rattle.engine.specs.declared.Refusal.TheVariants.{Load, Rate}
 use Rattle.engine.specs.Engine.{empty_engine, loaded_of}
 use Rattle.text.specs.Input.{box, sheet_of, after_line, box_lines}

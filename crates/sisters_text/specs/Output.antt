@@ -4,7 +4,7 @@ use Rattle.range.specs.declared.Range.{Range}
 use Rattle.range.specs.Limit.{from_to}
 use Rattle.text.specs.Output.{range_fields}
 use Rattle.text.specs.Answer.{unless_refused}
-use Rattle.increments.specs.declared.Difference.{Difference}
+use Rattle.increments.specs.InFull.{Difference}
 
 abbrev pub difference : List ℕ
 difference = 100 ∷ 105 ∷ 102 ∷ 102 ∷ 101 ∷ 114 ∷ 101 ∷ 110 ∷ 99 ∷ 101 ∷ []

@@ -4,8 +4,8 @@ use Rattle.std.specs.Prelude.{◌≡◌, List, [], ℕ, ◌≤◌, ℤ, length, 
 use Rattle.std.proofs.Math.Option.{Option, some}
 use Rattle.range.specs.declared.Range.{Range}
 use Rattle.engine.specs.declared.Engine.{Engine}
-use Rattle.engine.specs.declared.Outcome.{Outcome}
-use Rattle.engine.specs.declared.Outcome.TheVariants.{Accepted, Refused}
+use Rattle.engine.specs.InFull.{Outcome}
+use Rattle.engine.specs.InFull.{Accepted, Refused}
 use Rattle.engine.specs.declared.Refusal.{Refusal}
 use Rattle.engine.specs.Engine.{empty_engine, loaded_of, rated_of}
 use Rattle.writer.specs.Texts.{refused_text}
@@ -13,7 +13,7 @@ use Rattle.text.specs.Input.{box, sheet_of, after_line, box_lines}
 use Rattle.text.specs.Output.{refusal_text}
 use Rattle.text.specs.Answer as rate
 use Rattle.text.specs.Answer.{written}
-use Rattle.increments.specs.declared.Difference.{Difference}
+use Rattle.increments.specs.InFull.{Difference}
 use Rattle.sisters_text.specs.Input.{boats, boats_in}
 use Rattle.sisters_text.specs.Output.{difference_line, difference_text}
 use Rattle.sisters_text.specs.Answer.{answer_of}

@@ -16,6 +16,7 @@ pub fn read_full<R: Read>(stream: &mut R, bytes: &mut [u8]) -> io::Result<usize>
     ensures end { IfOk result (λ n. n < length bytes.new → IsAtEnd (R.remaining stream.new)) }
 {
     let mut at = 0;
+    // A `match`, and no `?`: the edit `takes_an_error_for_the_end` stands on its last arm.
     while at < bytes.len() {
         match stream.read(&mut bytes[at..]) {
             Ok(0) => return Ok(at),

@@ -4,9 +4,9 @@ use mathlib.Core.List.{List, [], ◌++◌, append_cancel_left}
 use mathlib.Core.Path.{◌≡◌, sym, ap, ◌∙◌}
 use native.Mathlib.Omega.{arith}
 use Rattle.rules.specs.declared.Limits.{Limits}
-use Rattle.engine.specs.declared.Outcome.{Outcome}
-use Rattle.engine.specs.declared.Outcome.TheVariants.{Accepted}
-use Rattle.engine.specs.declared.Rating.{Rating}
+use Rattle.engine.specs.InFull.{Outcome}
+use Rattle.engine.specs.InFull.{Accepted}
+use Rattle.engine.specs.InFull.{Rating}
 use Rattle.engine.specs.declared.Refusal.{Refusal}
 use Rattle.engine.specs.Engine.{rated_of}
 use Rattle.engine.proofs.Validity.{Valid, accepted-valid}

@@ -15,9 +15,9 @@ use Rattle.range.specs.declared.Range.{Range}
 use Rattle.range.specs.Sums.{has, at}
 use Rattle.rules.specs.declared.Limits.{Limits}
 use Rattle.engine.specs.declared.Engine.{Engine}
-use Rattle.engine.specs.declared.Loading.{Loading}
-use Rattle.engine.specs.declared.Outcome.{Outcome}
-use Rattle.engine.specs.declared.Outcome.TheVariants.{Accepted, Refused}
+use Rattle.engine.specs.InFull.{Loading}
+use Rattle.engine.specs.InFull.{Outcome}
+use Rattle.engine.specs.InFull.{Accepted, Refused}
 use Rattle.engine.specs.declared.Refusal.{Refusal}
 use Rattle.engine.specs.declared.Refusal.TheVariants.{Load}
 use Rattle.engine.specs.Engine.{number_of, place_of, empty_engine, loaded_of, rated_of}
@@ -96,7 +96,7 @@ unfolding answer_of sheet_of
 answer-length s =
     let end = sheet_length box true s in
     let l = loaded_of empty_engine (take end s) in
-    go (leb (length s) 8192) _ (loading-length l (after_line box s) (few-factors s end refl empty_engine refl l refl))
+    go (leb (length s) 8192) _ (loading-length l (after_line box s) (few-factors empty_engine (take end s)))
   where
     go : (b : Bool) (t : List ℕ) → length t ≤ 1024 → length (cond b t (refusal_text (Load TooLong))) ≤ 1024
     go true t h = h

@@ -4,13 +4,13 @@ use Rattle.std.proofs.Math.Option.{Option, none, some}
 use Rattle.codelist.specs.declared.Refusal.TheVariants.{TooLong}
 use Rattle.rules.specs.declared.Refusal.TheVariants.{RangeCount}
 use Rattle.engine.specs.declared.Engine.{Engine}
-use Rattle.engine.specs.declared.Loading.{Loading}
-use Rattle.engine.specs.declared.Outcome.{Outcome}
-use Rattle.engine.specs.declared.Outcome.TheVariants.{Accepted, Refused}
-use Rattle.engine.specs.declared.Rating.{Rating}
+use Rattle.engine.specs.InFull.{Loading}
+use Rattle.engine.specs.InFull.{Outcome}
+use Rattle.engine.specs.InFull.{Accepted, Refused}
+use Rattle.engine.specs.InFull.{Rating}
 use Rattle.engine.specs.declared.Refusal.TheVariants.{Load, Rate}
 use Rattle.engine.specs.Engine.{empty_engine, loaded_of, rated_of}
-use Rattle.text.specs.declared.Text.{Text}
+use Rattle.text.specs.InFull.{Text}
 use Rattle.text.specs.Input.{box, sheet_of, after_line, box_lines}
 use Rattle.text.specs.Output.{limits_text, refusal_text}
 

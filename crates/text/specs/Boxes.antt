@@ -1,8 +1,9 @@
--- The box lines as the code holds them. For private contracts only.
-use Rattle.std.specs.Prelude.{cond, List, ℤ, take}
+-- The box lines as the code holds them.
+use Rattle.std.specs.Prelude as std
+use Rattle.std.specs.Prelude.{List, ℤ}
 use Rattle.std.proofs.Math.Option.{Option, none, some}
-use Rattle.text.specs.declared.Boxes.{Boxes}
 
 -- The numbers of the box lines
-abbrev pub numbers_of : Boxes → Option (List ℤ)
-numbers_of b = cond b.good (some (take b.count b.ends)) none
+abbrev pub numbers_of : std.Option (List ℤ) → Option (List ℤ)
+numbers_of (std.Some xs) = some xs
+numbers_of std.None = none

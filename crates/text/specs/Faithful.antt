@@ -4,7 +4,7 @@ use Rattle.std.specs.Prelude.{List, ◌≡◌, ℕ, ◌<◌, ℤ, take}
 use Rattle.range.specs.Sums.{has, at}
 use Rattle.rules.specs.declared.Limits.{Limits}
 use Rattle.engine.specs.declared.Engine.{Engine}
-use Rattle.engine.specs.declared.Outcome.TheVariants.{Accepted}
+use Rattle.engine.specs.InFull.{Accepted}
 use Rattle.engine.specs.declared.Refusal.{Refusal}
 use Rattle.engine.specs.Engine.{rated_of}
 use Rattle.text.specs.Output.{limits_text, refusal_text}

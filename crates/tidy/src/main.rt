@@ -7,8 +7,5 @@ use std::io;
 fn main(rt: HostRuntime) -> io::Result<()> {
     let mut sheet = [0u8; 4097];
     let n = streams::read_full(&mut rt.stdin(), &mut sheet)?;
-    let o = liveness::answer(&sheet[..n]);
-    let bytes = o.bytes;
-    let len = o.len;
-    rt.write_all(&bytes[..len])
+    rt.write_all(liveness::answer(&sheet[..n]).as_slice())
 }

@@ -2,14 +2,13 @@
 // outcome, `written` and how many bytes, or `refused` with number and place, and then the buffer as the call left it.
 #![tactic(auto)]
 
-use liveness::Outcome;
 use std::env::Env;
 use std::io;
 
 fn show(out: &impl Print, sheet: &[u8], buffer: &mut [u8]) -> io::Result<()> {
     match liveness::tidy(sheet, buffer) {
-        Outcome::Written(len) => println!(out; "written\t{len}")?,
-        Outcome::Refused(why) => println!(out; "refused\t{}\t{}", why.number(), why.place())?,
+        Ok(len) => println!(out; "written\t{len}")?,
+        Err(why) => println!(out; "refused\t{}\t{}", why.number(), why.place())?,
     }
     out.write_all(buffer)
 }

@@ -49,6 +49,10 @@ put_text-inside o (b ∷ t) h = put_text-inside (put o b) t (put-inside o b h)
 pub fits-inside : (o p : Lent) (t : List ℕ) → p ≡ put_text o t → o.at ≤ length o.bytes → p.at ≤ length p.bytes
 fits-inside o p t e h = rw e (put_text-inside o t h)
 
+-- so it stays within so many
+pub within : (o p : Lent) (t : List ℕ) (n : ℕ) → p ≡ put_text o t → length o.bytes ≡ n → o.at ≤ n → p.at ≤ n
+within o p t n e l h = omega (arith, fits-inside o p t e (omega (arith, l, h)), ap (λ (x : Lent). length x.bytes) e, put_text-length o t, l)
+
 -- one piece after another
 pub put_text-append : (o : Lent) (s t : List ℕ) → put_text (put_text o s) t ≡ put_text o (s ++ t)
 unfolding put_text
@@ -62,6 +66,10 @@ then o p q s t e f = f ∙ ap (λ (x : Lent). put_text x t) e ∙ put_text-appen
 pub then-put : (o p q : Lent) (s : List ℕ) (b : ℕ) → p ≡ put_text o s → q ≡ put p b → q ≡ put_text o (s ++ (b ∷ []))
 unfolding put_text
 then-put o p q s b e f = then o p q s (b ∷ []) e f
+
+pub put_one : (o p : Lent) (b : ℕ) → p ≡ put o b → p ≡ put_text o (b ∷ [])
+unfolding put_text
+put_one o p b e = e
 
 pub put_then : (o p q : Lent) (b : ℕ) (t : List ℕ) → p ≡ put o b → q ≡ put_text p t → q ≡ put_text o (b ∷ t)
 unfolding put_text

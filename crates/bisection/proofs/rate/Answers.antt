@@ -1,93 +1,83 @@
 -- `bisection::rate` meets its contract. Assumes nothing.
 use borrow.Author.Rules.{rules}
-use mathlib.Core.Path.{◌≡◌, sym, ap, ap₂, ◌∙◌}
+use mathlib.Core.Path.{◌≡◌, sym, ap, ◌∙◌}
 use mathlib.Core.Bool.{true}
-use Prim.Native.Nat.{◌*◌, ◌≤◌}
+use Prim.Native.Nat.{◌*◌}
 use native.Mathlib.Omega.{arith}
-use lib.IntN.{nat_abs}
-use lib.ListN.{length}
+use Rattle.std.proofs.lemmas.List.{length-take-le}
 use mir.Syntax.{w64}
 use mir.Val.{to_z, of_z}
+use Rattle.std.proofs.lemmas.Result.{err_from_is_err_and}
 use Rattle.codelist.specs.Codelist.{ratable}
-use Rattle.codelist.proofs.Ratable.{decides}
-use Rattle.bounds.proofs.Ranges.{pairs-count, bad-few}
-use Rattle.rules.specs.declared.Rating.{Rating}
-use Rattle.rules.specs.Rate.{pairs, first_bad}
-use Rattle.bisection.specs.declared.Outcome.{Outcome}
-use Rattle.bisection.specs.Cut.{is_depth, outcome_of, parts}
-use Rattle.bisection.proofs.Answers.{copied-box, no-codelist, bad-depth, bad-count, bad-range, by_parts, box-of, depth-fits}
+use Rattle.bisection.specs.Cut.{is_depth, refused_with, in_full}
+use Rattle.bisection.proofs.Answers.{no-codelist, bad-depth, bad-count, few-numbers, bad-byte, bad-refused, box-made, parts-refused, parts-rated}
 use Rattle.bisection.proofs.rate.Goals as goal
 
 pub returns-then-not-is_ratable : goal.returns-then-not-is_ratable
-returns-then-not-is_ratable c = c.refuse.ensures ∙ no-codelist _ _ _ (sym c.is_ratable.ensures ∙ c.if-not-is_ratable.true)
+returns-then-not-is_ratable c = no-codelist _ _ _ (sym c.is_ratable.ensures ∙ c.if-not-is_ratable.true)
 
 pub returns-then-not-is_depth : goal.returns-then-not-is_depth
 returns-then-not-is_depth c =
     let can : ratable c.args.engine.codelist ≡ true = sym c.is_ratable.ensures ∙ c.if-not-is_ratable.false in
     let depth-read : to_z w64 (of_z w64 c.args.depth) ≡ c.args.depth = search rules in
-    let tested : c.is_depth.result ≡ is_depth c.args.depth = c.is_depth.ensures ∙ ap is_depth depth-read in
-    c.refuse-then-not-is_depth.ensures ∙ bad-depth _ _ _ can (sym tested ∙ c.if-not-is_depth.true)
+    bad-depth _ _ _ can (ap is_depth (sym depth-read) ∙ sym c.is_depth.ensures ∙ c.if-not-is_depth.true)
 
 pub returns-then-ranges-n : goal.returns-then-ranges-n
 returns-then-ranges-n c =
     let can : ratable c.args.engine.codelist ≡ true = sym c.is_ratable.ensures ∙ c.if-not-is_ratable.false in
     let depth-read : to_z w64 (of_z w64 c.args.depth) ≡ c.args.depth = search rules in
-    let tested : c.is_depth.result ≡ is_depth c.args.depth = c.is_depth.ensures ∙ ap is_depth depth-read in
-    let deep : is_depth c.args.depth ≡ true = sym tested ∙ c.if-not-is_depth.false in
-    c.refuse-then-ranges-n.ensures ∙ bad-count _ _ _ can deep c.if-ranges-n.true
+    let deep : is_depth c.args.depth ≡ true = ap is_depth (sym depth-read) ∙ sym c.is_depth.ensures ∙ c.if-not-is_depth.false in
+    bad-count _ _ _ can deep (λ n. c.if-ranges-n.true (n ∙ ap (λ k. 2 * k) (sym c.from-n.ensures)))
 
--- the lowest bad range is that of one of the factors
-pub overflow_cast-bad : goal.overflow_cast-bad
-overflow_cast-bad c =
-    let can : ratable c.args.engine.codelist ≡ true = sym c.is_ratable.ensures ∙ c.if-not-is_ratable.false in
-    let counts : length c.args.ranges.now ≡ 2 * c.args.engine.codelist.factors = c.if-ranges-n.false in
-    let few : c.args.engine.codelist.factors ≤ 8 = ((decides c.args.engine.codelist).0 can).factors.1 in
-    let xs = c.args.ranges.now in
-    omega (arith, c.first_bad-bad.ensures, bad-few 0 (pairs xs), pairs-count xs _ counts, few)
-
-pub returns-then-bad-ne0 : goal.returns-then-bad-ne0
-returns-then-bad-ne0 c =
+pub overflow_cast-result : goal.overflow_cast-result
+overflow_cast-result c =
     let can : ratable c.args.engine.codelist ≡ true = sym c.is_ratable.ensures ∙ c.if-not-is_ratable.false in
     let depth-read : to_z w64 (of_z w64 c.args.depth) ≡ c.args.depth = search rules in
-    let tested : c.is_depth.result ≡ is_depth c.args.depth = c.is_depth.ensures ∙ ap is_depth depth-read in
-    let deep : is_depth c.args.depth ≡ true = sym tested ∙ c.if-not-is_depth.false in
-    let counts : length c.args.ranges.now ≡ 2 * c.args.engine.codelist.factors = c.if-ranges-n.false in
-    c.refuse-then-bad-ne0.ensures
-    ∙ bad-range _ _ _ can deep counts _ c.first_bad-bad.ensures c.if-bad-ne0.true
+    let deep : is_depth c.args.depth ≡ true = ap is_depth (sym depth-read) ∙ sym c.is_depth.ensures ∙ c.if-not-is_depth.false in
+    omega (arith, bad-byte _ c.args.ranges.now c.args.depth can deep _ c.from-n.ensures c.if-ranges-n.false c.in-Some.ensures)
 
-pub copied-requires : goal.copied-requires
-copied-requires c =
-    let can : ratable c.args.engine.codelist ≡ true = sym c.is_ratable.ensures ∙ c.if-not-is_ratable.false in
-    let counts : length c.args.ranges.now ≡ 2 * c.args.engine.codelist.factors = c.if-ranges-n.false in
-    let few : c.args.engine.codelist.factors ≤ 8 = ((decides c.args.engine.codelist).0 can).factors.1 in
-    omega (arith, counts, few)
-
-pub overflow_cast-depth : goal.overflow_cast-depth
-overflow_cast-depth c =
-    let depth-read : to_z w64 (of_z w64 c.args.depth) ≡ c.args.depth = search rules in
-    let tested : c.is_depth.result ≡ is_depth c.args.depth = c.is_depth.ensures ∙ ap is_depth depth-read in
-    let deep : is_depth c.args.depth ≡ true = sym tested ∙ c.if-not-is_depth.false in
-    rw depth-read (depth-fits c.args.depth deep)
-
-pub parts-r-requires : goal.parts-r-requires
-parts-r-requires c =
+pub returns-in-Some : goal.returns-in-Some
+returns-in-Some c =
     let can : ratable c.args.engine.codelist ≡ true = sym c.is_ratable.ensures ∙ c.if-not-is_ratable.false in
     let depth-read : to_z w64 (of_z w64 c.args.depth) ≡ c.args.depth = search rules in
-    let tested : c.is_depth.result ≡ is_depth c.args.depth = c.is_depth.ensures ∙ ap is_depth depth-read in
-    let deep : is_depth c.args.depth ≡ true = sym tested ∙ c.if-not-is_depth.false in
-    let counts : length c.args.ranges.now ≡ 2 * c.args.engine.codelist.factors = c.if-ranges-n.false in
-    let none : 0 ≡ first_bad 1 (pairs c.args.ranges.now) = sym c.if-bad-ne0.false ∙ c.first_bad-bad.ensures in
-    box-of _ _ c.args.depth can deep counts _ (search rules) c.copied.ensures none
+    let deep : is_depth c.args.depth ≡ true = ap is_depth (sym depth-read) ∙ sym c.is_depth.ensures ∙ c.if-not-is_depth.false in
+    bad-refused _ _ _ can deep _ c.from-n.ensures c.if-ranges-n.false c.in-Some.ensures
+
+pub slice_bounds-ends-end : goal.slice_bounds-ends-end
+slice_bounds-ends-end c = few-numbers c.args.engine c.args.ranges.now (sym c.is_ratable.ensures ∙ c.if-not-is_ratable.false) c.from-n.ensures c.if-ranges-n.false
+
+pub slice_bounds-copy_from_slice-end : goal.slice_bounds-copy_from_slice-end
+slice_bounds-copy_from_slice-end c =
+    let few = few-numbers c.args.engine c.args.ranges.now (sym c.is_ratable.ensures ∙ c.if-not-is_ratable.false) c.from-n.ensures c.if-ranges-n.false in
+    sym (length-take-le _ _ few)
+
+pub copy_from_slice-requires : goal.copy_from_slice-requires
+copy_from_slice-requires c =
+    let few = few-numbers c.args.engine c.args.ranges.now (sym c.is_ratable.ensures ∙ c.if-not-is_ratable.false) c.from-n.ensures c.if-ranges-n.false in
+    length-take-le _ _ few
+
+pub parts-requires : goal.parts-requires
+parts-requires c =
+    let can : ratable c.args.engine.codelist ≡ true = sym c.is_ratable.ensures ∙ c.if-not-is_ratable.false in
+    let depth-read : to_z w64 (of_z w64 c.args.depth) ≡ c.args.depth = search rules in
+    let deep : is_depth c.args.depth ≡ true = ap is_depth (sym depth-read) ∙ sym c.is_depth.ensures ∙ c.if-not-is_depth.false in
+    box-made _ _ c.args.depth can deep _ c.from-n.ensures c.if-ranges-n.false (sym c.in_default.is ∙ c.first_bad.ensures) _ c.copy_from_slice.ensures.after (search rules)
+
+pub returns-in_err-parts : goal.returns-in_err-parts
+returns-in_err-parts c =
+    let can : ratable c.args.engine.codelist ≡ true = sym c.is_ratable.ensures ∙ c.if-not-is_ratable.false in
+    let depth-read : to_z w64 (of_z w64 c.args.depth) ≡ c.args.depth = search rules in
+    let deep : is_depth c.args.depth ≡ true = ap is_depth (sym depth-read) ∙ sym c.is_depth.ensures ∙ c.if-not-is_depth.false in
+    let q = err_from_is_err_and c.from_residual.result c.from_residual.ensures.1 in
+    let none = sym c.in_default.is ∙ c.first_bad.ensures in
+    ap in_full q.1
+    ∙ (ap refused_with q.2
+    ∙ parts-refused _ _ _ can deep _ c.from-n.ensures c.if-ranges-n.false none _ c.copy_from_slice.ensures.after (rw depth-read at c.in_err-parts.ensures))
 
 pub returns : goal.returns
 returns c =
     let can : ratable c.args.engine.codelist ≡ true = sym c.is_ratable.ensures ∙ c.if-not-is_ratable.false in
     let depth-read : to_z w64 (of_z w64 c.args.depth) ≡ c.args.depth = search rules in
-    let tested : c.is_depth.result ≡ is_depth c.args.depth = c.is_depth.ensures ∙ ap is_depth depth-read in
-    let deep : is_depth c.args.depth ≡ true = sym tested ∙ c.if-not-is_depth.false in
-    let counts : length c.args.ranges.now ≡ 2 * c.args.engine.codelist.factors = c.if-ranges-n.false in
-    let none : 0 ≡ first_bad 1 (pairs c.args.ranges.now) = sym c.if-bad-ne0.false ∙ c.first_bad-bad.ensures in
-    let box = copied-box _ _ _ c.copied.ensures counts in
-    let r = c.parts-r.ensures ∙ ap₂ (λ k rs. parts k c.args.engine.codelist rs) (ap nat_abs depth-read) box in
-    ap₂ (λ (o : Outcome) (x : Rating). record { outcome = o; limits = x.limits }) (c.answered.ensures ∙ ap (λ (x : Rating). outcome_of x.outcome) r) r
-    ∙ by_parts _ _ _ can deep counts none
+    let deep : is_depth c.args.depth ≡ true = ap is_depth (sym depth-read) ∙ sym c.is_depth.ensures ∙ c.if-not-is_depth.false in
+    let none = sym c.in_default.is ∙ c.first_bad.ensures in
+    parts-rated _ _ _ can deep _ c.from-n.ensures c.if-ranges-n.false none _ c.copy_from_slice.ensures.after (rw depth-read at c.in_ok-parts.ensures)

@@ -1,18 +1,11 @@
--- `begins_with` meets its contract: by what the reader of the bytes w finds.
-use mathlib.Core.Path.{sym, ap, ◌∙◌}
-use Rattle.codelist.specs.Read.{is_good, begins_with}
-use Rattle.codelist.specs.Views.{of_literal}
-use Rattle.codelist.specs.declared.lines.LiteralRead.{LiteralRead}
+-- `begins_with` meets its contract.
+use Rattle.std.proofs.lemmas.Bool.Decides.{Decides-eqb}
+use Rattle.std.proofs.lemmas.Slice.Eq.{starts_is}
+use Rattle.codelist.proofs.LineTexts.{started}
 use Rattle.codelist.proofs.begins_with.Goals as goal
 
-pub returns-in-Good : goal.returns-in-Good
-unfolding begins_with
-returns-in-Good c =
+pub returns : goal.returns
+returns c =
+    let w = c.args.w.now in
     let s = c.args.s.now in
-    sym (ap is_good (sym c.literal_at.ensures) ∙ ap (λ (r : LiteralRead). is_good (of_literal s r)) c.in-Good.is)
-
-pub returns-in-Bad : goal.returns-in-Bad
-unfolding begins_with
-returns-in-Bad c =
-    let s = c.args.s.now in
-    sym (ap is_good (sym c.literal_at.ensures) ∙ ap (λ (r : LiteralRead). is_good (of_literal s r)) c.in-Bad.is)
+    started w s c.type_inv.w _ (starts_is Decides-eqb s w _ c.starts_with.ensures.value)

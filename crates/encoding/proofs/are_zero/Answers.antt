@@ -1,24 +1,15 @@
--- `are_zero` meets its contract: the or of the bytes passed is zero where all of them are.
-use mathlib.Core.Path.{refl, sym, ◌∙◌}
-use native.Mathlib.Omega.{arith}
-use borrow.Author.Rules.{rules}
-use Rattle.encoding.proofs.Zeros.{zero_more, zero-end}
+-- `are_zero` meets its contract: the or of all bytes is zero where each of them is.
+use mathlib.Core.Path.{ap, ◌∙◌}
+use lib.Bits.{bit_or}
+use lib.Dec.{eqb}
+use Rattle.std.proofs.Common.{ℕ, rules}
+use Rattle.std.proofs.lemmas.Iterator.{YieldsList-from_slice}
+use Rattle.std.proofs.lemmas.Iterator.Consumers.{fold_from_yields_List}
+use Rattle.encoding.proofs.Zeros.{zeros-fold}
 use Rattle.encoding.proofs.are_zero.Goals as goal
 
-pub loop-k-init : goal.loop-k-init
-loop-k-init c = (omega arith, refl)
-
-pub bounds-s-k : goal.bounds-s-k
-bounds-s-k c = search rules
-
-pub overflow_add-k : goal.overflow_add-k
-overflow_add-k c = search rules
-
-pub loop-k-smaller : goal.loop-k-smaller
-loop-k-smaller c = search rules
-
-pub loop-k-preserved : goal.loop-k-preserved
-loop-k-preserved c = (omega arith, zero_more c.args.s.now c.loop-k.k c.loop-k.all c.loop-k-test.true ∙ c.loop-k.invariant.1)
-
 pub returns : goal.returns
-returns c = sym (zero-end c.args.s.now c.loop-k.k c.loop-k.all c.loop-k-test.false) ∙ c.loop-k.invariant.1
+returns c =
+    let s = c.args.s.now in
+    ap (λ (n : ℕ). eqb n 0) (fold_from_yields_List _ bit_or 0 c.fold.result c.fold.ensures.ran (YieldsList-from_slice s cc) (λ a x b q k. search rules))
+    ∙ zeros-fold s 0

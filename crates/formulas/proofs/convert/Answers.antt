@@ -1,28 +1,20 @@
--- `convert` meets its contract: of a draft in as many bytes as may be needed.
-use mathlib.Core.Path.{sym}
-use lib.Seq.{length-take-le}
-use Rattle.formulas.proofs.Sheets.{drafted-sheet, drafted-refusal, converted, not-converted}
+-- `convert` meets its contract: of a draft, or of a refusal.
+use Rattle.std.proofs.Common.{rules}
+use Rattle.std.proofs.lemmas.Result.{err_from_is_err_and}
+use Rattle.formulas.proofs.Sheets.{converts, fills, refuses}
 use Rattle.formulas.proofs.convert.Goals as goal
 
-pub slice_bounds-bytes-end : goal.slice_bounds-bytes-end
-slice_bounds-bytes-end c =
-    let x = drafted-sheet c.args.text.now c.args.factors c.draft.new.out c.in-Sheet.len c.draft.result c.in-Sheet.is c.draft.ensures in
-    x.2.inside
+pub returns-in_err-draft-clause-value : goal.returns-in_err-draft-clause-value
+returns-in_err-draft-clause-value c =
+    let p = err_from_is_err_and c.from_residual.result c.from_residual.ensures.1 in
+    rw (p.1, p.2) (refuses c.args.text.now c.args.factors _ c.in_err-draft.ensures).0
 
-pub slice_bounds-word-end-in-Sheet : goal.slice_bounds-word-end-in-Sheet
-slice_bounds-word-end-in-Sheet c =
-    let x = drafted-sheet c.args.text.now c.args.factors c.draft.new.out c.in-Sheet.len c.draft.result c.in-Sheet.is c.draft.ensures in
-    sym (length-take-le c.in-Sheet.len c.draft.new.out x.2.inside)
+pub returns-in_err-draft-clause-sheet_after : goal.returns-in_err-draft-clause-sheet_after
+returns-in_err-draft-clause-sheet_after c = (refuses c.args.text.now c.args.factors _ c.in_err-draft.ensures).1 c.args.sheet.now
 
-pub returns-in-Sheet : goal.returns-in-Sheet
-returns-in-Sheet c =
-    let x = drafted-sheet c.args.text.now c.args.factors c.draft.new.out c.in-Sheet.len c.draft.result c.in-Sheet.is c.draft.ensures in
-    let h = converted c.args.text.now c.args.factors c.draft.new.out c.in-Sheet.len x.0 x.1 x.2 c.args.sheet.now _ _ c.word.ensures in
-    record { value = h.0; sheet_after = h.1 }
+pub returns-clause-value : goal.returns-clause-value
+returns-clause-value c = converts c.args.text.now c.args.factors c.in_ok-draft.draft c.in_ok-draft.ensures _ c.as_slice-bytes.ensures
 
-pub returns-in-Refused : goal.returns-in-Refused
-returns-in-Refused c =
-    let why = c.in-Refused.why in
-    let h = not-converted c.args.text.now c.args.factors c.draft.new.out why
-    (drafted-refusal c.args.text.now c.args.factors c.draft.new.out why c.draft.result c.in-Refused.is c.draft.ensures) c.args.sheet.now in
-    record { value = h.0; sheet_after = h.1 }
+pub returns-clause-sheet_after : goal.returns-clause-sheet_after
+returns-clause-sheet_after c =
+    rw c.copy_from_slice.ensures.after (fills c.args.text.now c.args.factors c.in_ok-draft.draft c.in_ok-draft.ensures _ c.args.sheet.now c.as_slice-bytes.ensures (search rules))

@@ -1,16 +1,16 @@
-use native.Mathlib.Omega.{arith}
+use Rattle.std.proofs.Common.{arith}
 use borrow.Author.Tests.{le-leb, lt-leb}
 use Rattle.formulas.specs.Convert.{count_of}
 use Rattle.formulas.proofs.count_of.Goals as goal
 
-pub returns-then-count-lt1 : goal.returns-then-count-lt1
+pub returns-in-1-to-8 : goal.returns-in-1-to-8
 unfolding count_of
-returns-then-count-lt1 c = (simp (lt-leb 1 _ c.if-count-lt1.true), omega arith)
+returns-in-1-to-8 c = (simp (le-leb 1 c.args.count (omega arith), le-leb c.args.count 8 (omega arith)), omega arith)
 
-pub returns-then-count-gt8 : goal.returns-then-count-gt8
+pub returns-in_default : goal.returns-in_default
 unfolding count_of
-returns-then-count-gt8 c = (simp (le-leb 1 _ c.if-count-lt1.false, lt-leb _ 8 c.if-count-gt8.true), omega arith)
+returns-in_default c = (simp (lt-leb 1 c.args.count (omega arith)), omega arith)
 
-pub returns : goal.returns
+pub returns-in_default-2 : goal.returns-in_default-2
 unfolding count_of
-returns c = (simp (le-leb 1 _ c.if-count-lt1.false, le-leb _ 8 c.if-count-gt8.false), omega arith)
+returns-in_default-2 c = (simp (le-leb 1 c.args.count (omega arith), lt-leb c.args.count 8 (omega arith)), omega arith)

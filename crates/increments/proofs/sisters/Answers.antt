@@ -1,35 +1,32 @@
 -- `increments::sisters` meets its contract. Assumes nothing.
-use mathlib.Core.Path.{◌≡◌, sym, ap, ◌∙◌}
-use mathlib.Core.List.{List}
-use Rattle.range.specs.declared.Range.{Range}
-use Rattle.rules.specs.Rate.{pairs}
-use Rattle.engine.specs.declared.Outcome.TheVariants.{Accepted}
-use Rattle.engine.specs.declared.Rating.{Rating}
-use Rattle.engine.specs.Engine.{rated_of}
-use Rattle.increments.specs.Call.{boats_of}
-use Rattle.increments.proofs.Answers.{classed, class-rated, class-refused}
+use mathlib.Core.Path.{sym, ap, ◌∙◌}
+use Rattle.std.proofs.lemmas.Result.{err_from_is_err_and}
+use Rattle.increments.specs.Call.{refused_with, in_full}
+use Rattle.increments.proofs.Answers.{class_of, count-refused, outside-refused, both-apart, difference-answers, refusal-answers}
 use Rattle.increments.proofs.sisters.Goals as goal
 
-pub of_boats-requires : goal.of_boats-requires
-of_boats-requires c =
-    let rated : let a = c.args in c.rate-rating.result ≡ rated_of a.engine a.ranges.now = c.rate-rating.ensures in
-    let is-accepted : (rated_of c.args.engine c.args.ranges.now).outcome ≡ Accepted = sym (ap (λ (x : Rating). x.outcome) rated) ∙ c.in-Accepted.is in
-    let slopes-are : c.rate-rating.result.limits.gradient ≡ (rated_of c.args.engine c.args.ranges.now).limits.gradient = ap (λ (x : Rating). x.limits.gradient) rated in
-    let a = c.args in rw slopes-are (classed a.engine a.ranges.now is-accepted)
+pub returns-in_err-limits : goal.returns-in_err-limits
+returns-in_err-limits c =
+    let q = err_from_is_err_and c.from_residual.result c.from_residual.ensures.1 in
+    ap in_full q.1 ∙ (ap refused_with q.2 ∙ refusal-answers _ _ _ c.in_err-limits.ensures)
 
-pub returns-in-Accepted : goal.returns-in-Accepted
-returns-in-Accepted c =
-    let rated : let a = c.args in c.rate-rating.result ≡ rated_of a.engine a.ranges.now = c.rate-rating.ensures in
-    let is-accepted : (rated_of c.args.engine c.args.ranges.now).outcome ≡ Accepted = sym (ap (λ (x : Rating). x.outcome) rated) ∙ c.in-Accepted.is in
-    let slopes-are : c.rate-rating.result.limits.gradient ≡ (rated_of c.args.engine c.args.ranges.now).limits.gradient = ap (λ (x : Rating). x.limits.gradient) rated in
-    let a = c.args in
-    c.of_boats.ensures
-    ∙ ap (λ (g : List Range). boats_of a.engine.codelist.factors (pairs a.ranges.now) g a.boats.now) slopes-are
-    ∙ class-rated a.engine a.ranges.now a.boats.now is-accepted
+pub returns-then-boats-n : goal.returns-then-boats-n
+returns-then-boats-n c = count-refused _ _ _ c.in_ok-limits.ensures c.from-n.ensures c.if-boats-n.true
 
-pub returns-in-Refused : goal.returns-in-Refused
-returns-in-Refused c =
-    let rated : let a = c.args in c.rate-rating.result ≡ rated_of a.engine a.ranges.now = c.rate-rating.ensures in
-    let a = c.args in
-    c.refuse.ensures
-    ∙ class-refused a.engine a.ranges.now a.boats.now _ (sym (ap (λ (x : Rating). x.outcome) rated) ∙ c.in-Refused.is)
+pub first_outside-requires-clause-n_bound : goal.first_outside-requires-clause-n_bound
+first_outside-requires-clause-n_bound c = (class_of _ _ c.args.boats.now c.in_ok-limits.ensures c.from-n.ensures).few
+
+pub first_outside-requires-clause-ranges_len : goal.first_outside-requires-clause-ranges_len
+first_outside-requires-clause-ranges_len c = (class_of _ _ c.args.boats.now c.in_ok-limits.ensures c.from-n.ensures).count
+
+pub returns-in-Some : goal.returns-in-Some
+returns-in-Some c = outside-refused _ _ _ c.in_ok-limits.ensures c.from-n.ensures c.if-boats-n.false c.in-Some.ensures
+
+pub difference-requires : goal.difference-requires
+difference-requires c =
+    both-apart _ _ _ c.in_ok-limits.ensures c.from-n.ensures c.if-boats-n.false (sym c.in_default.is ∙ c.first_outside.ensures)
+
+pub returns : goal.returns
+returns c =
+    c.difference.ensures
+    ∙ difference-answers _ _ _ c.in_ok-limits.ensures c.from-n.ensures c.if-boats-n.false (sym c.in_default.is ∙ c.first_outside.ensures)

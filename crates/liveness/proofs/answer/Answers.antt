@@ -1,20 +1,19 @@
--- `liveness::answer` meets its contract. Assumes nothing.
-use Prim.Native.Nat.{ℕ}
-use mathlib.Core.Path.{refl, ap₂, ◌∙◌}
-use lib.ListN.{replicate}
-use Rattle.writer.specs.Lent.{lent, put_text}
+use mathlib.Core.Path.{sym, ap₂, ◌∙◌}
+use lib.Seq.{length-take-le}
+use Rattle.writer.specs.Lent.{put_text}
 use Rattle.writer.specs.Texts.{refused_text}
-use Rattle.liveness.proofs.Printed.{prints-text, prints-refusal}
+use Rattle.liveness.proofs.Printed.{text_inside, text_printed, refusal_printed}
 use Rattle.liveness.proofs.answer.Goals as goal
 
-pub returns-in-Written : goal.returns-in-Written
-returns-in-Written c =
-    let s = c.args.sheet.now in
-    prints-text s (replicate 4096 0) _ refl c.tidy.ensures.buffer_after _ c.tidy.ensures.value _ c.in-Written.is
+pub slice_bounds-word-end : goal.slice_bounds-word-end
+slice_bounds-word-end c = sym (length-take-le _ _ (text_inside c.args.sheet.now _ c.in-Ok.ensures.buffer_after _ c.in-Ok.ensures.value))
 
-pub returns-in-Refused : goal.returns-in-Refused
-returns-in-Refused c =
-    let s = c.args.sheet.now in
-    prints-refusal s (replicate 4096 0) _ refl c.tidy.ensures.buffer_after _ c.tidy.ensures.value _ _ c.in-Refused.is
-    (c.refusal-len.ensures
-    ∙ ap₂ (λ (a b : ℕ). put_text (lent c.tidy.new.buffer 0) (refused_text a b)) c.number-number.ensures c.place-place.ensures)
+pub returns-in-Ok : goal.returns-in-Ok
+returns-in-Ok c =
+    c.word.ensures ∙ ap₂ put_text c.new-text.ensures (text_printed c.args.sheet.now _ c.in-Ok.ensures.buffer_after _ c.in-Ok.ensures.value)
+
+pub returns-in-Err : goal.returns-in-Err
+returns-in-Err c =
+    c.refusal.ensures
+    ∙ ap₂ put_text c.new-text.ensures
+    (ap₂ refused_text (c.from.ensures ∙ c.number.ensures) c.place.ensures ∙ refusal_printed c.args.sheet.now _ c.in-Err.ensures.value)

@@ -1,6 +1,13 @@
 -- `sisters_text::answer` meets its contract: what is put into the zeros is the written text. Assumes nothing.
+use Rattle.std.proofs.Common.{ap, ◌∙◌}
+use Rattle.writer.specs.Lent.{put_text}
+use Rattle.writer.proofs.Writing.{then}
 use Rattle.text.proofs.Writing.{put_written}
 use Rattle.sisters_text.proofs.answer.Goals as goal
 
-pub returns : goal.returns
-returns c = put_written _ _ c.output-len.ensures
+pub returns-in-Ok : goal.returns-in-Ok
+returns-in-Ok c =
+    put_written _ _ _ c.new-out.ensures (then _ _ _ _ _ c.word.ensures c.range_fields.ensures ∙ ap (put_text c.new-out.result) c.in-Ok.ensures)
+
+pub returns-in-Err : goal.returns-in-Err
+returns-in-Err c = put_written _ _ _ c.new-out.ensures (c.refusal.ensures ∙ ap (put_text c.new-out.result) c.in-Err.ensures)

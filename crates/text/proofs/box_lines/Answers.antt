@@ -1,41 +1,49 @@
 -- `text::box_lines` meets its contract: the laws of the loop (`Reading`) at each way out and each turn. Assumes nothing.
-use mathlib.Core.Path.{sym, ◌∙◌}
+use Prim.Native.Nat.{◌-◌, ◌<◌}
+use mathlib.Core.Path.{ap, sym, ◌∙◌}
 use native.Mathlib.Omega.{arith}
+use lib.ListN.{length}
 use mir.Syntax.{w64}
 use mir.Facts.{to_z-of_z}
 use borrow.Author.Rules.{rules}
-use Rattle.codelist.proofs.Places.{pair-read, pair-unread}
-use Rattle.text.proofs.Reading.{start, leave-full, leave-bad, leave-done, turn}
+use Rattle.text.specs.Boxes.{numbers_of}
+use Rattle.text.proofs.Reading.{start, left-some, left-none, leave-full, leave-bad, leave-done, one_more, turn}
 use Rattle.text.proofs.box_lines.Goals as goal
 
-pub loop-at-init : goal.loop-at-init
-loop-at-init c = start _ _
+pub loop-rest-init : goal.loop-rest-init
+loop-rest-init c = rw c.new-boxes.ensures (start _)
 
-pub returns-then-count-ge16 : goal.returns-then-count-ge16
-returns-then-count-ge16 c =
-    let a = c.args in
-    let t = c.loop-at-test.true in
-    record { result_value = leave-full a.s.now a.from c.loop-at.ends c.loop-at.count c.loop-at.at c.loop-at.invariant t c.if-count-ge16.true; count_bound = search rules }
+pub returns-in_err-low : goal.returns-in_err-low
+returns-in_err-low c =
+    let l = c.loop-rest in
+    ap numbers_of c.from_residual.ensures
+    ∙ leave-bad _ _ _ l.invariant (left-some _ c.loop-rest-test.ensures) (sym c.in_err-low.ensures)
 
-pub loop-at-preserved : goal.loop-at-preserved
-loop-at-preserved c =
-    let a = c.args in
-    let s = a.s.now in
-    turn s a.from c.loop-at.ends c.loop-at.count c.loop-at.at c.loop-at.invariant _ _ _ _ _ c.loop-at-test.true c.if-count-ge16.false
-    (pair-read s _ _ _ _ (sym c.pair_at.ensures ∙ c.in-Good.is))
-    (to_z-of_z {w = w64} (search rules) ∙ c.value.ensures) (to_z-of_z {w = w64} (search rules) ∙ c.value-in-Good.ensures)
+pub returns-in_err-push : goal.returns-in_err-push
+returns-in_err-push c =
+    let l = c.loop-rest in
+    ap numbers_of c.from_residual-in_err-push.ensures
+    ∙ leave-full _ _ _ l.invariant (left-some _ c.loop-rest-test.ensures) c.in_err-push.ensures
 
-pub returns-in-Bad : goal.returns-in-Bad
-returns-in-Bad c =
-    let a = c.args in
-    let s = a.s.now in record {
-      result_value = leave-bad s a.from c.loop-at.ends c.loop-at.count c.loop-at.at c.loop-at.invariant c.loop-at-test.true c.if-count-ge16.false
-          (pair-unread s _ (sym c.pair_at.ensures ∙ c.in-Bad.is));
-      count_bound = search rules;
-    }
+pub loop-rest-smaller : goal.loop-rest-smaller
+loop-rest-smaller c =
+    let low = c.in_ok-push.ensures in
+    let high = c.in_ok-push-2.ensures in
+    let less : 16 - length c.push-in-loop-rest.new.self < 16 - length c.loop-rest.boxes = omega (
+      arith,
+      low.0,
+      one_more _ _ _ low.1,
+      one_more _ _ _ high.1,
+    ) in
+    less
+
+pub loop-rest-preserved : goal.loop-rest-preserved
+loop-rest-preserved c =
+    let l = c.loop-rest in
+    let low = c.in_ok-push.ensures in
+    let high = c.in_ok-push-2.ensures in
+    turn _ _ _ l.invariant (left-some _ c.loop-rest-test.ensures) _ _ _ _ _ _ _ low.0 (sym c.in_ok-low.ensures)
+    (to_z-of_z {w = w64} (search rules) ∙ c.value.ensures) (to_z-of_z {w = w64} (search rules) ∙ c.value-in-loop-rest.ensures) low.1 high.1
 
 pub returns : goal.returns
-returns c =
-    let a = c.args in
-    let i = c.loop-at.invariant in
-    record { result_value = leave-done a.s.now a.from c.loop-at.ends c.loop-at.count c.loop-at.at i c.loop-at-test.false; count_bound = omega (arith, i.few) }
+returns c = leave-done _ _ _ c.loop-rest.invariant (left-none _ c.loop-rest-test.ensures)

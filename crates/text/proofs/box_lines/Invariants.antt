@@ -1,9 +1,10 @@
 use Prim.Native.Nat.{◌-◌}
+use lib.ListN.{length}
 use Rattle.text.proofs.Reading.{Going}
 use Rattle.text.proofs.box_lines.Given as goal
 
-abbrev pub invariant-loop-at : goal.invariant-loop-at
-invariant-loop-at l = Going l.s l.from l.ends l.count l.at
+abbrev pub invariant-loop-rest : goal.invariant-loop-rest
+invariant-loop-rest l = Going l.s l.boxes l.rest
 
-abbrev pub decreases-loop-at : goal.decreases-loop-at
-decreases-loop-at l = 16 - l.count
+abbrev pub decreases-loop-rest : goal.decreases-loop-rest
+decreases-loop-rest l = 16 - length l.boxes

@@ -5,4 +5,4 @@ use Rattle.text.proofs.natural_field.Goals as goal
 
 pub returns : goal.returns
 unfolding natural_field
-returns c = put_then _ _ _ _ _ c.byte-parted.ensures c.natural.ensures
+returns c = put_then _ _ _ _ _ c.byte.ensures c.natural.ensures

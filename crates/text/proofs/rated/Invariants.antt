@@ -1,10 +1,6 @@
-use Prim.Native.Nat.{◌-◌}
 use mathlib.Core.Path.{◌≡◌}
-use Rattle.engine.specs.Engine.{rated_of}
+use Rattle.engine.specs.Engine as engine
 use Rattle.text.proofs.rated.Given as goal
 
-abbrev pub invariant-loop-k : goal.invariant-loop-k
-invariant-loop-k l = l.r ≡ rated_of l.engine l.ranges
-
-abbrev pub decreases-loop-k : goal.decreases-loop-k
-decreases-loop-k l = l.times - l.k
+abbrev pub invariant-loop : goal.invariant-loop
+invariant-loop l = engine.in_full l.rating ≡ engine.rated_of l.engine l.boxes

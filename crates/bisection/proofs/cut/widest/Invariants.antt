@@ -1,12 +1,8 @@
 use mathlib.Core.Path.{◌≡◌}
-use Prim.Native.Nat.{◌-◌, ◌≤◌}
 use lib.ListN.{drop}
 use Rattle.bisection.specs.Cut.{widest_from, widest}
 use Rattle.bisection.specs.Box.{box_of}
 use Rattle.bisection.proofs.cut.widest.Given as goal
 
 abbrev pub invariant-loop-a : goal.invariant-loop-a
-invariant-loop-a l = (1 ≤ l.a) × (l.a ≤ l.n) × (widest_from l.a l.best l.most (drop l.a (box_of l.n l.ends)) ≡ widest (box_of l.n l.ends))
-
-abbrev pub decreases-loop-a : goal.decreases-loop-a
-decreases-loop-a l = l.n - l.a
+invariant-loop-a l = widest_from l.a l.best l.most (drop l.a (box_of l.n l.ends)) ≡ widest (box_of l.n l.ends)

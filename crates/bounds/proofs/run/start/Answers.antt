@@ -1,43 +1,26 @@
--- `bounds::run::start` meets its contract: the first k lines are those of the first k factors. Assumes nothing.
-use mathlib.Core.Path.{◌≡◌, ap, ◌∙◌}
-use Prim.Native.Nat.{◌-◌, ◌<◌}
+-- `bounds::run::start` meets its contract: the first a lines are those of the first a factors. Assumes nothing.
+use mathlib.Core.Path.{◌≡◌, ap, subst, ◌∙◌}
 use native.Mathlib.Nat as N
 use native.Mathlib.Omega.{arith}
-use lib.ListN.{length}
 use Rattle.range.specs.Limit.{is_valid}
 use Rattle.rules.specs.Rate.{pairs}
 use Rattle.bounds.proofs.Validity.{each_at}
-use Rattle.bounds.proofs.Starting.{begun-none, begun_more, begun_all}
+use Rattle.bounds.proofs.Starting.{Begun, begun-none, begun_more, begun_all}
 use Rattle.bounds.proofs.run.start.Goals as goal
 
-pub loop-k-init : goal.loop-k-init
-loop-k-init c = (omega arith, begun-none c.args.b (pairs c.args.xs.now) c.requires.xs_value _ _ _ c.requires.ready)
+pub loop-a-init : goal.loop-a-init
+loop-a-init c = begun-none c.args.b (pairs c.args.xs.now) c.requires.xs_value _ _ c.requires.ready
 
-pub range_at-requires : goal.range_at-requires
-range_at-requires c =
-    let more : c.loop-k.k < length (pairs c.args.xs.now) = omega (arith, c.requires.xs_len, c.loop-k-test.true) in
-    more
+pub factor-last-requires : goal.factor-last-requires
+factor-last-requires c = record { a_bound = omega (arith, c.requires.le_n.1); blank = c.loop-a.invariant.started.ready.blank _ (N.le_refl _); r_value = ap is_valid c.range_at.ensures ∙ each_at (pairs c.args.xs.now) c.requires.xs_value c.loop-a.a }
 
-pub factor-g-requires : goal.factor-g-requires
-factor-g-requires c = record { a_bound = omega (arith, c.requires.le_n.1, c.loop-k-test.true); blank = c.loop-k.invariant.1.started.ready.blank _ (N.le_refl _); r_value = ap is_valid c.range_at.ensures ∙ each_at (pairs c.args.xs.now) c.requires.xs_value c.loop-k.k }
-
-pub overflow_add-k : goal.overflow_add-k
-overflow_add-k c = omega arith
-
-pub loop-k-smaller : goal.loop-k-smaller
-loop-k-smaller c = omega arith
-
-pub loop-k-preserved : goal.loop-k-preserved
-loop-k-preserved c =
-    let more : c.loop-k.k < length (pairs c.args.xs.now) = omega (arith, c.requires.xs_len, c.loop-k-test.true) in
-    let at = c.loop-k in (
-      omega (arith, c.loop-k-test.true),
-      begun_more c.args.b (pairs c.args.xs.now) c.requires.xs_value at.k _ at.invariant.1 more c.range_at.ensures c.factor-g.ensures,
-    )
+pub loop-a-preserved : goal.loop-a-preserved
+loop-a-preserved c =
+    begun_more c.args.b (pairs c.args.xs.now) c.requires.xs_value c.loop-a.a _ c.loop-a.invariant (omega (arith, c.requires.xs_len)) c.range_at.ensures c.factor-last.ensures
 
 pub returns : goal.returns
 returns c =
-    let at = c.loop-k in
-    let all : c.args.n ≡ at.k = omega (arith, at.invariant.0, c.loop-k-test.false) in
-    let h = begun_all c.args.b (pairs c.args.xs.now) c.requires.xs_value _ _ _ _ _ c.requires.xs_len c.requires.le_n.0 all at.invariant.1 in
+    let at = c.loop-a in
+    let end : at.a ≡ c.args.n = omega (arith, c.requires.le_n.0) in
+    let h = begun_all c.args.b (pairs c.args.xs.now) c.requires.xs_value _ _ c.args.n c.requires.xs_len c.requires.le_n.0 (subst (Begun c.args.b (pairs c.args.xs.now) at.t at.last) end at.invariant) in
     record { started = h.0; value = h.1 }

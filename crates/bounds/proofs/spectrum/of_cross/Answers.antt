@@ -14,7 +14,7 @@ returns-then-is_single c =
 pub returns-else-is_single : goal.returns-else-is_single
 returns-else-is_single c =
     let s = c.args.set in
-    let t = c.args.t.now in
+    let t = c.args.t.now.numbers in
     pick_no _ _ _ _ (failed _ _ c.is_single.ensures c.if-is_single.false)
     (c.cross.ensures
     ∙ ap₂ (λ (m n : ℕ). sum_of (products_of s (ranges_from t m) (ranges_from t n)) (root_of s (ranges_from t m) (ranges_from t n)))

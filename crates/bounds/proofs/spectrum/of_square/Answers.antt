@@ -15,4 +15,4 @@ returns-then-is_single c =
 pub returns-else-is_single : goal.returns-else-is_single
 returns-else-is_single c =
     pick_no _ _ _ _ (failed _ _ c.is_single.ensures c.if-is_single.false)
-    (c.sum_of_squares.ensures ∙ ap (λ (n : ℕ). squares_of c.args.set (ranges_from c.args.t.now n)) c.slopes_of.ensures)
+    (c.sum_of_squares.ensures ∙ ap (λ (n : ℕ). squares_of c.args.set (ranges_from c.args.t.now.numbers n)) c.slopes_of.ensures)

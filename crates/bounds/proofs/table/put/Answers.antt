@@ -1,4 +1,3 @@
--- `bounds::table::put` meets its contract. Assumes nothing.
 use mathlib.Core.Path.{ap₂}
 use Prim.Native.Nat.{◌+◌}
 use lib.IntN.{ℤ}
@@ -6,16 +5,16 @@ use lib.ListN.{set}
 use Rattle.bounds.proofs.Narrow.{ends-within, narrow, narrowed}
 use Rattle.bounds.proofs.table.put.Goals as goal
 
-pub overflow_cast-low : goal.overflow_cast-low
-overflow_cast-low c = narrow c.args.r.low (ends-within c.args.r c.requires.settled).0
+pub overflow_cast-numbers : goal.overflow_cast-numbers
+overflow_cast-numbers c = narrow c.args.r.low (ends-within c.args.r c.requires.r_value).0
 
-pub overflow_cast-high : goal.overflow_cast-high
-overflow_cast-high c = narrow c.args.r.high (ends-within c.args.r c.requires.settled).1
+pub overflow_cast-numbers-2 : goal.overflow_cast-numbers-2
+overflow_cast-numbers-2 c = narrow c.args.r.high (ends-within c.args.r c.requires.r_value).1
 
 pub returns : goal.returns
 returns c =
     let m = c.args.m in
-    let small = ends-within c.args.r c.requires.settled in
-    ap₂ (λ (l h : ℤ). set (set c.args.t.now m l) (m + 1) h)
+    let small = ends-within c.args.r c.requires.r_value in
+    ap₂ (λ (l h : ℤ). set (set c.args.numbers.now m l) (m + 1) h)
     (narrowed c.args.r.low small.0)
     (narrowed c.args.r.high small.1)

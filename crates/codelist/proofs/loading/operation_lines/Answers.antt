@@ -1,110 +1,43 @@
--- `loading::operation_lines` meets its contract: the laws of the loop (`Loop`) at each way out and each turn.
-use mathlib.Core.Path.{ap, sym, ◌∙◌}
-use borrow.Author.Rules.{rules}
-use Rattle.codelist.specs.Views.{of_line}
-use Rattle.codelist.proofs.Loop.{start, leave-bad, leave-full, leave-fault, leave_none, leave-done, turn}
+-- `operation_lines` meets its contract.
+use Rattle.std.proofs.Common.{length, ◌<◌, ◌≡◌, arith}
+use Rattle.codelist.specs.Read.{good, bad, operation_line}
+use Rattle.codelist.specs.Views.{text_line}
+use Rattle.std.proofs.lemmas.Grind.{common_steps}
+use Rattle.std.proofs.lemmas.Bool.Decides.{nat_tests}
+use Rattle.codelist.proofs.Loop.{leave-bad, leave-full, leave-fault, leave_none, leave-done, turn}
 use Rattle.codelist.proofs.loading.operation_lines.Goals as goal
 
-pub loop-at-init : goal.loop-at-init
-loop-at-init c = start _ _ _ _ c.requires
-
-pub overflow_add-place : goal.overflow_add-place
-overflow_add-place c = search rules
-
-pub line_at-requires : goal.line_at-requires
-line_at-requires c = search rules
-
-pub enum_known-line : goal.enum_known-line
-enum_known-line c = search rules
-
-pub overflow_add-earlier : goal.overflow_add-earlier
-overflow_add-earlier c = search rules
-
-pub refuse-requires : goal.refuse-requires
-refuse-requires c = search rules
+pub returns-in_err-line : goal.returns-in_err-line
+returns-in_err-line c =
+    let h : 0 < length c.loop-rest.rest.now = grind (arith, nat_tests, common_steps) in
+    let e : bad ≡ operation_line c.loop-rest.rest.now = grind (arith, common_steps) in
+    let l = leave-bad _ _ _ _ _ _ c.loop-rest.invariant h e in
+    grind (arith, common_steps)
 
 pub returns-then-earlier-ge-MOST_LINES : goal.returns-then-earlier-ge-MOST_LINES
 returns-then-earlier-ge-MOST_LINES c =
-    let a = c.args in
-    let s = a.s.now in
-    let e = sym c.line_at.ensures ∙ ap (of_line s) c.in-Good.is in
-    c.refuse.ensures
-    ∙ leave-full s a.from a.year a.n c.loop-at.ops c.loop-at.count c.loop-at.at c.loop-at.invariant _ _ e c.if-earlier-ge-MOST_LINES.true
+    let e : good (text_line c.in_ok-line.line) c.in_ok-line.t.now ≡ operation_line c.loop-rest.rest.now = grind (arith, common_steps) in
+    let l = leave-full _ _ _ _ _ _ c.loop-rest.invariant _ _ e (omega arith) in
+    grind (arith, common_steps)
 
-pub check_line-requires : goal.check_line-requires
-check_line-requires c = search rules
+pub returns-in_err-op : goal.returns-in_err-op
+returns-in_err-op c =
+    let e : good (text_line c.in_ok-line.line) c.in_ok-line.t.now ≡ operation_line c.loop-rest.rest.now = grind (arith, common_steps) in
+    let l = leave-fault _ _ _ _ _ _ c.loop-rest.invariant _ _ e c.in_err-op.field-0.0 (omega arith) in
+    grind (arith, common_steps)
 
-pub enum_known-op : goal.enum_known-op
-enum_known-op c = search rules
-
-pub offset_bounds-ops-count : goal.offset_bounds-ops-count
-offset_bounds-ops-count c = search rules
-
-pub bounds-ops-count : goal.bounds-ops-count
-bounds-ops-count c = search rules
-
-pub overflow_add-count : goal.overflow_add-count
-overflow_add-count c = search rules
-
-pub loop-at-smaller : goal.loop-at-smaller
-loop-at-smaller c = search rules
-
-pub loop-at-preserved : goal.loop-at-preserved
-loop-at-preserved c =
-    let a = c.args in
-    let s = a.s.now in
-    let e = sym c.line_at.ensures ∙ ap (of_line s) c.in-Good.is in
-    turn s a.from a.year a.n c.loop-at.ops c.loop-at.count c.loop-at.at c.loop-at.invariant _ _ _ e c.if-earlier-ge-MOST_LINES.false
-    (sym c.in-Fine.is ∙ c.check_line.ensures)
-
-pub enum_known-why : goal.enum_known-why
-enum_known-why c = search rules
-
-pub refuse-requires-in-Fault : goal.refuse-requires-in-Fault
-refuse-requires-in-Fault c = search rules
-
-pub returns-in-Fault : goal.returns-in-Fault
-returns-in-Fault c =
-    let a = c.args in
-    let s = a.s.now in
-    let e = sym c.line_at.ensures ∙ ap (of_line s) c.in-Good.is in
-    c.refuse-in-Fault.ensures
-    ∙ leave-fault s a.from a.year a.n c.loop-at.ops c.loop-at.count c.loop-at.at c.loop-at.invariant _ _ e _
-    c.if-earlier-ge-MOST_LINES.false
-    (sym c.in-Fault.is ∙ c.check_line.ensures)
-
-pub enum_told-1 : goal.enum_told-1
-enum_told-1 c = search rules
-
-pub refuse-requires-in-Bad : goal.refuse-requires-in-Bad
-refuse-requires-in-Bad c = search rules
-
-pub returns-in-Bad : goal.returns-in-Bad
-returns-in-Bad c =
-    let a = c.args in
-    let s = a.s.now in
-    c.refuse-in-Bad.ensures
-    ∙ leave-bad s a.from a.year a.n c.loop-at.ops c.loop-at.count c.loop-at.at c.loop-at.invariant c.loop-at-test.true
-    (sym c.line_at.ensures ∙ ap (of_line s) c.in-Bad.is)
-
-pub refuse-requires-then-count-eq0 : goal.refuse-requires-then-count-eq0
-refuse-requires-then-count-eq0 c = search rules
+pub loop-rest-preserved : goal.loop-rest-preserved
+loop-rest-preserved c =
+    let e : good (text_line c.in_ok-line.line) c.in_ok-line.t.now ≡ operation_line c.loop-rest.rest.now = grind (arith, common_steps) in
+    let l = turn _ _ _ _ _ _ c.loop-rest.invariant _ _ e c.in_ok-op.op (omega arith) in
+    grind (arith, common_steps)
 
 pub returns-then-count-eq0 : goal.returns-then-count-eq0
 returns-then-count-eq0 c =
-    let a = c.args in
-    c.refuse-then-count-eq0.ensures
-    ∙ leave_none a.s.now a.from a.year a.n c.loop-at.ops c.loop-at.count c.loop-at.at c.loop-at.invariant
-    c.loop-at-test.false c.if-count-eq0.true
-
-pub overflow_cast-result : goal.overflow_cast-result
-overflow_cast-result c = search rules
-
-pub overflow_cast-result-2 : goal.overflow_cast-result-2
-overflow_cast-result-2 c = search rules
+    let h : length c.loop-rest.rest.now ≡ 0 = grind (arith, nat_tests, common_steps) in
+    leave_none _ _ _ _ _ _ c.loop-rest.invariant h c.if-count-eq0.true
 
 pub returns : goal.returns
 returns c =
-    let a = c.args in
-    leave-done a.s.now a.from a.year a.n c.loop-at.ops c.loop-at.count c.loop-at.at c.loop-at.invariant c.loop-at-test.false
-    c.if-count-eq0.false
+    let h : length c.loop-rest.rest.now ≡ 0 = grind (arith, nat_tests, common_steps) in
+    leave-done _ _ _ _ _ _ c.loop-rest.invariant h c.if-count-eq0.false

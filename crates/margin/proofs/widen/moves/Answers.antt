@@ -1,17 +1,15 @@
 -- `margin::widen::moves` meets its contract. Assumes nothing.
 use borrow.Author.Rules.{rules}
-use mathlib.Core.Path.{◌≡◌, sym, ap, ap₂, ◌∙◌}
+use mathlib.Core.Path.{◌≡◌, refl, sym, ap, ap₂, ◌∙◌}
 use native.Mathlib.Omega.{arith}
-use lib.ListN.{length, take}
+use lib.ListN.{length}
 use lib.Signed.{lt_z}
 use mir.Syntax.{w64}
 use mir.Val.{to_z, of_z}
 use Rattle.range.proofs.Fitting.{high_read}
-use Rattle.rules.specs.declared.Outcome.{Outcome}
 use Rattle.rules.specs.Rate.{rate_of}
-use Rattle.margin.specs.Edge.{wider, passes, moves}
-use Rattle.margin.proofs.Widening.{widenable, wider-length}
-use Rattle.margin.proofs.Moving.{value-valid, moves-told}
+use Rattle.margin.proofs.Widened.{widenable, wider-length}
+use Rattle.margin.proofs.Moving.{value-valid, moves-refused, moves-rated}
 use Rattle.margin.proofs.widen.moves.Goals as goal
 
 pub wider-ends-requires : goal.wider-ends-requires
@@ -25,26 +23,18 @@ slice_bounds-ends-end c =
 
 pub slice_bounds-rate-end : goal.slice_bounds-rate-end
 slice_bounds-rate-end c =
-    let widened : take (length c.args.ranges.now) c.wider-ends.result
-    ≡ wider c.args.ranges.now c.args.a c.args.w = c.wider-ends.ensures in
     let a = c.args in
-    sym (wider-length a.ranges.now a.a a.w) ∙ ap length (sym widened)
+    sym (wider-length a.ranges.now a.a a.w) ∙ ap length (sym c.wider-ends.ensures)
 
-pub returns-in-Refused : goal.returns-in-Refused
-returns-in-Refused c =
-    let widened : take (length c.args.ranges.now) c.wider-ends.result
-    ≡ wider c.args.ranges.now c.args.a c.args.w = c.wider-ends.ensures in
-    let told : moves c.args.c c.args.ranges.now c.args.ceiling c.args.a c.args.w
-    ≡ passes c.rate-r.result.outcome c.rate-r.result.limits.value c.args.ceiling = moves-told _ _ _ _ _ (c.rate-r.ensures ∙ ap (rate_of c.args.c) widened) in
-    sym (told ∙ ap (λ (o : Outcome). passes o c.rate-r.result.limits.value c.args.ceiling) c.in-Refused.is)
+pub returns-in-Err : goal.returns-in-Err
+returns-in-Err c =
+    let rated = c.in-Err.ensures ∙ ap (rate_of c.args.c) c.wider-ends.ensures in
+    sym (moves-refused _ _ _ _ _ (sym rated))
 
-pub returns-in-Rated : goal.returns-in-Rated
-returns-in-Rated c =
-    let widened : take (length c.args.ranges.now) c.wider-ends.result
-    ≡ wider c.args.ranges.now c.args.a c.args.w = c.wider-ends.ensures in
-    let told : moves c.args.c c.args.ranges.now c.args.ceiling c.args.a c.args.w
-    ≡ passes c.rate-r.result.outcome c.rate-r.result.limits.value c.args.ceiling = moves-told _ _ _ _ _ (c.rate-r.ensures ∙ ap (rate_of c.args.c) widened) in
+pub returns-in-Ok : goal.returns-in-Ok
+returns-in-Ok c =
     let a = c.args in
-    let v = c.rate-r.result.limits.value in
+    let v = c.in-Ok.limits.value in
+    let rated = c.in-Ok.ensures ∙ ap (rate_of a.c) c.wider-ends.ensures in
     let ceiling : to_z w64 (of_z w64 a.ceiling) ≡ a.ceiling = search rules in
-    ap₂ lt_z ceiling (high_read v (value-valid _ _ c.rate-r.ensures c.in-Rated.is)) ∙ sym (told ∙ ap (λ (o : Outcome). passes o v a.ceiling) c.in-Rated.is)
+    ap₂ lt_z ceiling (high_read v (value-valid _ _ c.in-Ok.ensures refl)) ∙ sym (moves-rated _ _ _ _ _ (sym rated))

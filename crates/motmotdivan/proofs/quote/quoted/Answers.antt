@@ -1,138 +1,76 @@
 -- `quoted` meets its contract: 10, 8 and 18 in their order, and rating of the numbers that were converted.
-use Rattle.std.proofs.Common.{◌≡◌, ℕ, ◌+◌, ◌*◌, ◌/◌, ◌<◌, ◌≤◌, cond, ◌&&◌, ltb, leb, length, take, sym, ap, ◌∙◌, subst, true≢false, arith, length-take-le, rules, ltb-false, ltb-true, eq-eqb, ne_eqb, le-leb, leb-true}
-use mathlib.Core.Option.{some}
-use borrow.Author.Tests.{not-true, not-false}
-use Rattle.codelist.specs.declared.Codelist.{Codelist}
-use Rattle.codelist.proofs.Laws.{both_true, both-made}
-use Rattle.rules.specs.declared.Rating.{Rating}
-use Rattle.encoding.specs.Decode.{decoded, holds_codelist}
+use Rattle.std.proofs.Common.{◌≡◌, ℕ, ◌*◌, ◌&&◌, false, cond, eqb, List, ℤ, length, get_or, sym, ap, ◌∙◌, subst, arith, length-take-le, take_all, eq-eqb, ne_eqb}
+use Rattle.std.proofs.lemmas.Result.{err_from_is_err_and}
+use Rattle.encoding.specs.Decode.{lent_codelist, holds_codelist}
+use Rattle.rules.specs.Rate.{rate_of}
+use Rattle.motmotdivan.specs.declared.codes.Refusal.TheVariants.{Length, Fraction}
 use Rattle.motmotdivan.specs.Record.{fraction, ranges_of}
-use Rattle.motmotdivan.specs.Calls.{answer_of}
-use Rattle.motmotdivan.specs.Views.{RatePlaced, refused_quote, quote_of}
-use Rattle.motmotdivan.proofs.Answers.{held, ten-given, eight-given, eighteen-given, rating-given}
-use Rattle.motmotdivan.proofs.Places.{rate-placed}
+use Rattle.motmotdivan.specs.Calls.{refusal, answer_of, rate_answer}
+use Rattle.motmotdivan.specs.Views.{Whole, Stopped, Converted}
+use Rattle.motmotdivan.proofs.Answers.{held, refused-held, ten-given, eight-given, eighteen-given, rating-given}
 use Rattle.motmotdivan.proofs.Reading.{all_read, first-fraction}
 use Rattle.motmotdivan.proofs.quote.quoted.Goals as goal
+use Rattle.motmotdivan.proofs.quote.quoted.Goals.{then-n-lt1-via-then-n-lt1, then-n-lt1-via-else-n-lt1+then-n-gt8}
+use Rattle.motmotdivan.proofs.quote.quoted.Goals.{then-ranges-ne-RANGES_LENGTH-via-then-ranges-ne-RANGES_LENGTH, then-ranges-ne-RANGES_LENGTH-via-else-ranges-ne-RANGES_LENGTH+then-room-ne-RESULT_LENGTH}
 
 pub returns-then-state-ne-LENGTH : goal.returns-then-state-ne-LENGTH
 returns-then-state-ne-LENGTH c =
     let a = c.args in
-    c.refuse.ensures ∙ ten-given a.state.now a.ranges.now a.room (λ k e. c.if-state-ne-LENGTH.true (held a.state.now k e).long)
+    ten-given a.state.now a.ranges.now a.room (λ k e. c.if-state-ne-LENGTH.true (held a.state.now k e).long)
 
-pub returns-then-not-n : goal.returns-then-not-n
-returns-then-not-n c =
+pub returns-then-n-lt1 : goal.returns-then-n-lt1
+returns-then-n-lt1 c =
     let a = c.args in
-    c.refuse-then-not-n.ensures
-    ∙ ten-given a.state.now a.ranges.now a.room (λ k e.
+    ten-given a.state.now a.ranges.now a.room (λ k e.
     let h = held a.state.now k e in
-    let n = c.wide-n.result in
-    let f : n ≡ k.factors = c.wide-n.ensures.value ∙ h.factors in
-    true≢false (sym (both-made (leb 1 n) (leb n 8) (le-leb 1 n (omega (arith, h.few))) (le-leb n 8 (omega (arith, h.few))))
-    ∙ not-true (leb 1 n && leb n 8) c.if-not-n.true-raw))
+    elim c.then-n-lt1.branch [
+      | then-n-lt1-via-then-n-lt1 w ↦ omega (arith, h.few, h.factors, c.from-n.ensures, w.if-n-lt1.true)
+      | then-n-lt1-via-else-n-lt1+then-n-gt8 w ↦ omega (arith, h.few, h.factors, c.from-n.ensures, w.if-n-gt8.true)
+    ])
 
 pub returns-then-ranges-ne-RANGES_LENGTH : goal.returns-then-ranges-ne-RANGES_LENGTH
 returns-then-ranges-ne-RANGES_LENGTH c =
     let a = c.args in
-    c.refuse_held.ensures
-    ∙ eight-given a.state.now a.ranges.now a.room (rw (ne_eqb (length a.ranges.now) 128 c.if-ranges-ne-RANGES_LENGTH.true))
+    let other : (eqb (length a.ranges.now) 128 && eqb a.room 192) ≡ false =
+    elim c.then-ranges-ne-RANGES_LENGTH.branch [
+      | then-ranges-ne-RANGES_LENGTH-via-then-ranges-ne-RANGES_LENGTH w ↦ rw (ne_eqb (length a.ranges.now) 128 w.if-ranges-ne-RANGES_LENGTH.true)
+      | then-ranges-ne-RANGES_LENGTH-via-else-ranges-ne-RANGES_LENGTH+then-room-ne-RESULT_LENGTH w ↦ rw (eq-eqb (length a.ranges.now) 128 w.if-ranges-ne-RANGES_LENGTH.false, ne_eqb a.room 192 w.if-room-ne-RESULT_LENGTH.true)
+    ] in
+    rw c.held.ensures (refused-held (holds_codelist a.state.now) Length ∙ eight-given a.state.now a.ranges.now a.room other)
 
-pub returns-then-room-ne-RESULT_LENGTH : goal.returns-then-room-ne-RESULT_LENGTH
-returns-then-room-ne-RESULT_LENGTH c =
+-- The lowest factor with a fraction
+stopped : (s x : List ℕ) (room n m a : ℕ) (xs : List ℤ) → length x ≡ 128 → room ≡ 192 → n ≡ get_or s 0 0 → m ≡ 2 * n → Stopped x xs m a
+    → cond (holds_codelist s) (refusal 18 a) (refusal 10 0) ≡ rate_answer s x room
+stopped s x room n m a xs p q f l w =
+    let found : ranges_of x n ≡ fraction a =
+    first-fraction x xs w.index 0 n w.before w.stops (omega arith) (omega (arith, w.inside)) ∙ ap fraction (sym w.factor) in
+    eighteen-given s x room p q a (λ k e. ap (ranges_of x) (sym (f ∙ (held s k e).factors)) ∙ found)
+
+-- All of them are whole
+rated : (s x : List ℕ) (room n m : ℕ) (xs : List ℤ) → length x ≡ 128 → room ≡ 192 → n ≡ get_or s 0 0 → m ≡ 2 * n → (length xs ≡ m) × Whole x xs m
+    → answer_of (rate_of (lent_codelist s) xs) ≡ rate_answer s x room
+rated s x room n m xs p q f l w =
+    let all = all_read x xs 0 n (λ j h. w.1 j (omega arith)) (omega (arith, w.0)) in
+    rating-given s x room p q xs (λ k e. (all.exact, (ap (ranges_of x) (sym (f ∙ (held s k e).factors)) ∙ all.read, all.near ∙ take_all (2 * n) xs (omega (arith, w.0)))))
+
+pub returns-in-Err : goal.returns-in-Err
+returns-in-Err c =
     let a = c.args in
-    c.refuse_held-then-room-ne-RESULT_LENGTH.ensures
-    ∙ eight-given a.state.now a.ranges.now a.room (rw (eq-eqb (length a.ranges.now) 128 c.if-ranges-ne-RANGES_LENGTH.false, ne_eqb a.room 192 c.if-room-ne-RESULT_LENGTH.true))
+    rw c.held-in-Err.ensures (refused-held (holds_codelist a.state.now) (Fraction c.in-Err.factor)
+    ∙ stopped a.state.now a.ranges.now a.room c.from-n.result _ _ _ c.if-ranges-ne-RANGES_LENGTH.false c.if-room-ne-RESULT_LENGTH.false c.from-n.ensures
+    (length-take-le _ _ (omega (arith, c.if-n-gt8.false))) c.in-Err.ensures)
 
-pub numbers_of-whole-requires : goal.numbers_of-whole-requires
-numbers_of-whole-requires c =
-    let few : c.wide-n.result ≤ 8 = let n = c.wide-n.result in
-    leb-true n 8 (both_true (leb 1 n) (leb n 8) (not-false (leb 1 n && leb n 8) c.if-not-n.false-raw)).1 in
-    record { s_len = c.if-ranges-ne-RANGES_LENGTH.false; m_bound = omega (arith, few); values_len = search rules }
-
-pub slice_bounds-values-end : goal.slice_bounds-values-end
-slice_bounds-values-end c =
-    let few : c.wide-n.result ≤ 8 = let n = c.wide-n.result in
-    leb-true n 8 (both_true (leb 1 n) (leb n 8) (not-false (leb 1 n && leb n 8) c.if-not-n.false-raw)).1 in
-    let long : length c.numbers_of-whole.new.values ≡ 16 = c.numbers_of-whole.ensures.long in
-    let inside : c.numbers_of-whole.result ≤ 16 = omega (arith, c.numbers_of-whole.ensures.inside, few) in
-    omega (arith, long, inside)
-
-pub slice_bounds-has_fraction-end : goal.slice_bounds-has_fraction-end
-slice_bounds-has_fraction-end c =
-    let few : c.wide-n.result ≤ 8 = let n = c.wide-n.result in
-    leb-true n 8 (both_true (leb 1 n) (leb n 8) (not-false (leb 1 n && leb n 8) c.if-not-n.false-raw)).1 in
-    let long : length c.numbers_of-whole.new.values ≡ 16 = c.numbers_of-whole.ensures.long in
-    let inside : c.numbers_of-whole.result ≤ 16 = omega (arith, c.numbers_of-whole.ensures.inside, few) in
-    sym (length-take-le _ _ (omega (arith, long, inside)))
-
-pub fraction_code-requires : goal.fraction_code-requires
-fraction_code-requires c =
-    let few : c.wide-n.result ≤ 8 = let n = c.wide-n.result in
-    leb-true n 8 (both_true (leb 1 n) (leb n 8) (not-false (leb 1 n && leb n 8) c.if-not-n.false-raw)).1 in
-    let long : length c.numbers_of-whole.new.values ≡ 16 = c.numbers_of-whole.ensures.long in
-    let inside : c.numbers_of-whole.result ≤ 16 = omega (arith, c.numbers_of-whole.ensures.inside, few) in
-    let told : c.has_fraction.result ≡ ltb c.numbers_of-whole.result (2 * c.wide-n.result) = let m = c.numbers_of-whole.result in
-    let v = c.numbers_of-whole.new.values in
-    let l : m ≤ length v = omega (arith, long, inside) in
-    c.has_fraction.ensures ∙ ap (λ (k : ℕ). ltb k (2 * c.wide-n.result)) (length-take-le m v l) in
-    let stopped : c.numbers_of-whole.result < 2 * c.wide-n.result = ltb-true _ _ (sym told ∙ c.if-has_fraction.true) in
-    omega (arith, stopped, few)
-
-pub returns-then-has_fraction : goal.returns-then-has_fraction
-returns-then-has_fraction c =
-    let few : c.wide-n.result ≤ 8 = let n = c.wide-n.result in
-    leb-true n 8 (both_true (leb 1 n) (leb n 8) (not-false (leb 1 n && leb n 8) c.if-not-n.false-raw)).1 in
-    let factors : (k : Codelist) → decoded c.args.state.now ≡ some k → k.factors ≡ c.wide-n.result = (λ k e. sym (c.wide-n.ensures.value ∙ (held _ k e).factors)) in
-    let long : length c.numbers_of-whole.new.values ≡ 16 = c.numbers_of-whole.ensures.long in
-    let inside : c.numbers_of-whole.result ≤ 16 = omega (arith, c.numbers_of-whole.ensures.inside, few) in
-    let told : c.has_fraction.result ≡ ltb c.numbers_of-whole.result (2 * c.wide-n.result) = let m = c.numbers_of-whole.result in
-    let v = c.numbers_of-whole.new.values in
-    let l : m ≤ length v = omega (arith, long, inside) in
-    c.has_fraction.ensures ∙ ap (λ (k : ℕ). ltb k (2 * c.wide-n.result)) (length-take-le m v l) in
-    let stopped : c.numbers_of-whole.result < 2 * c.wide-n.result = ltb-true _ _ (sym told ∙ c.if-has_fraction.true) in
+pub returns-in_err-rate_at : goal.returns-in_err-rate_at
+returns-in_err-rate_at c =
     let a = c.args in
-    let b = a.ranges.now in
-    let v = c.numbers_of-whole.ensures in
-    let m = c.numbers_of-whole.result in
-    let f : ranges_of b c.wide-n.result ≡ fraction (m / 2 + 1) =
-    first-fraction b c.numbers_of-whole.new.values m 0 c.wide-n.result v.before (v.stops stopped) (omega arith) (omega (arith, stopped)) in
-    c.refuse_held-then-has_fraction.ensures ∙ ap (λ (z : ℕ). refused_quote (cond (holds_codelist a.state.now) z 10)) c.fraction_code.ensures
-    ∙ eighteen-given a.state.now b a.room c.if-ranges-ne-RANGES_LENGTH.false c.if-room-ne-RESULT_LENGTH.false (m / 2 + 1) (λ y e. ap (ranges_of b) (factors y e) ∙ f)
-
--- all of them are whole
-pub slice_bounds-values-end-2 : goal.slice_bounds-values-end-2
-slice_bounds-values-end-2 c =
-    let few : c.wide-n.result ≤ 8 = let n = c.wide-n.result in
-    leb-true n 8 (both_true (leb 1 n) (leb n 8) (not-false (leb 1 n && leb n 8) c.if-not-n.false-raw)).1 in
-    let long : length c.numbers_of-whole.new.values ≡ 16 = c.numbers_of-whole.ensures.long in
-    omega (arith, long, few)
-
-pub slice_bounds-rate_at-end : goal.slice_bounds-rate_at-end
-slice_bounds-rate_at-end c =
-    let few : c.wide-n.result ≤ 8 = let n = c.wide-n.result in
-    leb-true n 8 (both_true (leb 1 n) (leb n 8) (not-false (leb 1 n && leb n 8) c.if-not-n.false-raw)).1 in
-    let long : length c.numbers_of-whole.new.values ≡ 16 = c.numbers_of-whole.ensures.long in
-    sym (length-take-le _ _ (omega (arith, long, few)))
-
-pub answer-requires : goal.answer-requires
-answer-requires c = subst RatePlaced (sym (ap (λ (r : Rating). r.outcome) c.rate_at.ensures)) (rate-placed _ _)
+    let p = err_from_is_err_and c.from_residual.result c.from_residual.ensures.1 in
+    rw (p.1, p.2) (ap answer_of c.in_err-rate_at.ensures
+    ∙ rated a.state.now a.ranges.now a.room c.from-n.result _ _ c.if-ranges-ne-RANGES_LENGTH.false c.if-room-ne-RESULT_LENGTH.false c.from-n.ensures
+    (length-take-le _ _ (omega (arith, c.if-n-gt8.false))) (subst (Converted _ _ _) c.in_default.is c.numbers_of.ensures))
 
 pub returns : goal.returns
 returns c =
-    let few : c.wide-n.result ≤ 8 = let n = c.wide-n.result in
-    leb-true n 8 (both_true (leb 1 n) (leb n 8) (not-false (leb 1 n && leb n 8) c.if-not-n.false-raw)).1 in
-    let factors : (k : Codelist) → decoded c.args.state.now ≡ some k → k.factors ≡ c.wide-n.result = (λ k e. sym (c.wide-n.ensures.value ∙ (held _ k e).factors)) in
-    let long : length c.numbers_of-whole.new.values ≡ 16 = c.numbers_of-whole.ensures.long in
-    let inside : c.numbers_of-whole.result ≤ 16 = omega (arith, c.numbers_of-whole.ensures.inside, few) in
-    let told : c.has_fraction.result ≡ ltb c.numbers_of-whole.result (2 * c.wide-n.result) = let m = c.numbers_of-whole.result in
-    let v = c.numbers_of-whole.new.values in
-    let l : m ≤ length v = omega (arith, long, inside) in
-    c.has_fraction.ensures ∙ ap (λ (k : ℕ). ltb k (2 * c.wide-n.result)) (length-take-le m v l) in
     let a = c.args in
-    let b = a.ranges.now in
-    let n = c.wide-n.result in
-    let z = c.numbers_of-whole.new.values in
-    let all : 2 * n ≤ c.numbers_of-whole.result = ltb-false c.numbers_of-whole.result (2 * n) (sym told ∙ c.if-has_fraction.false) in
-    let p = all_read b z 0 n (λ j l. c.numbers_of-whole.ensures.before j (omega (arith, all))) (omega (arith, long, few)) in
-    c.answer.ensures ∙ ap (λ (y : Rating). quote_of (answer_of y)) c.rate_at.ensures
-    ∙ rating-given a.state.now b a.room c.if-ranges-ne-RANGES_LENGTH.false c.if-room-ne-RESULT_LENGTH.false (take (2 * n) z)
-    (λ y e. (p.exact, (ap (ranges_of b) (factors y e) ∙ p.read, p.near)))
+    ap answer_of c.in_ok-rate_at.ensures
+    ∙ rated a.state.now a.ranges.now a.room c.from-n.result _ _ c.if-ranges-ne-RANGES_LENGTH.false c.if-room-ne-RESULT_LENGTH.false c.from-n.ensures
+    (length-take-le _ _ (omega (arith, c.if-n-gt8.false))) (subst (Converted _ _ _) c.in_default.is c.numbers_of.ensures)

@@ -1,36 +1,41 @@
 -- `record_of` meets its contract: the cells passed are as the bytes have them.
-use Rattle.std.proofs.Common.{sym, ◌∙◌, arith}
-use Rattle.motmotdivan.specs.Views.{cell_number}
-use Rattle.motmotdivan.proofs.Cells.{filled_none, filled-over, filled_more}
-use Rattle.motmotdivan.proofs.Patterns.{pattern-finite, pattern-not-finite, pattern_number}
+use Rattle.std.proofs.Common.{◌≡◌, ℕ, zero, suc, ◌+◌, ◌*◌, ◌/◌, ◌<◌, List, length, get_or, take, drop, refl, ap, ◌∙◌, subst, arith, drop-drop, length-set, get_or-set_other, get_or-set_same, below_more, None}
+use Rattle.std.specs.Simd.{first_chunks}
+use Rattle.std.specs.declared.option.Option.{Option}
+use lib.Ieee.{Float, binary64, of_bits}
+use Rattle.encoding.specs.Bytes.{number_of}
+use Rattle.motmotdivan.specs.Doubles.{whole_of}
+use Rattle.motmotdivan.specs.Record.{number_at}
+use Rattle.motmotdivan.specs.Views.{Cell}
 use Rattle.motmotdivan.proofs.record.record_of.Goals as goal
-use Rattle.motmotdivan.proofs.record.record_of.Goals.{then-is_finite, else-is_finite}
 
-pub loop-k-init : goal.loop-k-init
-loop-k-init c = (omega arith, filled_none _ _)
+-- The bytes of the double at k
+chunk : (s : List ℕ) (k n : ℕ) (d : List ℕ) → k < n → get_or (first_chunks 8 n s) k d ≡ take 8 (drop (8 * k) s)
+chunk s k zero d h = absurd (omega arith)
+chunk s zero (suc n) d h = refl
+chunk s (suc k) (suc n) d h =
+    let e : 8 + 8 * k ≡ 8 * suc k = omega arith in
+    chunk (drop 8 s) k n d (omega arith) ∙ ap (take 8) (drop-drop (8 * k) 8 s) ∙ ap (λ (j : ℕ). take 8 (drop j s)) e
 
-pub bits_at-bits-requires : goal.bits_at-bits-requires
-bits_at-bits-requires c = omega arith
-
-pub float_from_bits-cells : goal.float_from_bits-cells
-float_from_bits-cells c = pattern_number c.bits_at-bits.result (sym c.is_finite.ensures ∙ c.if-is_finite.true)
+here : (s : List ℕ) (chunks : List (List ℕ)) (k : ℕ) (d : List ℕ) (o : Option Float) → chunks ≡ first_chunks 8 (length s / 8) s → k < length s / 8
+    → Cell (whole_of (of_bits binary64 (number_of (get_or chunks k d)))) o → Cell (number_at s k) o
+unfolding number_at
+here s chunks k d o e h c =
+    subst (λ (t : List ℕ). Cell (whole_of (of_bits binary64 (number_of t))) o) (ap (λ (l : List (List ℕ)). get_or l k d) e ∙ chunk s k (length s / 8) d h) c
 
 pub loop-k-preserved : goal.loop-k-preserved
 loop-k-preserved c =
     let s = c.args.s.now in
-    let p = c.bits_at-bits.result in
-    let f = c.loop-k.invariant.1 in (
-      omega arith,
-      elim c.if-is_finite.branch [
-        | then-is_finite w ↦ rw (w.cells-is, w.finite-is) (filled_more s c.loop-k.cells c.loop-k.finite c.loop-k.k p f c.bits_at-bits.ensures (omega arith) (pattern-finite p (sym c.is_finite.ensures ∙ w.if-is_finite.true)))
-        | else-is_finite w ↦ rw (w.cells-is, w.finite-is) (filled-over s c.loop-k.cells c.loop-k.finite c.loop-k.k p f c.bits_at-bits.ensures (pattern-not-finite p (sym c.is_finite.ensures ∙ w.if-is_finite.false)))
-      ],
+    let i = c.loop-k.invariant in
+    let k = c.loop-k.k in
+    let cells = c.loop-k.record.cells in
+    let l : k < length cells = omega (arith, i.0, c.requires.m_bound, c.loop-k-test.true) in
+    let o = c.finite.result in (
+      length-set cells k o ∙ i.0,
+      below_more _ k
+          (λ j h. let ne : ¬ (j ≡ k) = omega arith in rw (get_or-set_other cells k j o None ne) (i.1 j h))
+          (rw (get_or-set_same cells k o None l) (here s _ k _ o c.as_chunks.ensures.front (omega (arith, c.requires, c.loop-k-test.true)) c.finite.ensures)),
     )
 
 pub returns : goal.returns
-unfolding cell_number
-returns c =
-    let f = c.loop-k.invariant.1 in record { number = λ k h. f.done k (omega arith); sure = record { each = f.sure } }
-
-pub loop-k-smaller : goal.loop-k-smaller
-loop-k-smaller c = omega arith
+returns c = record { each = λ k h. c.loop-k.invariant.1 k (omega (arith, c.loop-k-test.false)) }

@@ -1,9 +1,7 @@
-use Rattle.std.proofs.Common.{◌-◌, ◌≤◌}
-use Rattle.motmotdivan.proofs.Cells.{Filled}
+use Rattle.std.proofs.Common.{◌≡◌, ℕ, ◌<◌, length, get_or, None}
+use Rattle.motmotdivan.specs.Record.{number_at}
+use Rattle.motmotdivan.specs.Views.{Cell}
 use Rattle.motmotdivan.proofs.record.record_of.Given as goal
 
 abbrev pub invariant-loop-k : goal.invariant-loop-k
-invariant-loop-k l = (l.k ≤ l.m) × Filled l.s l.cells l.finite l.k
-
-abbrev pub decreases-loop-k : goal.decreases-loop-k
-decreases-loop-k l = l.m - l.k
+invariant-loop-k l = (length l.record.cells ≡ 16) × ((j : ℕ) → j < l.k → Cell (number_at l.s j) (get_or l.record.cells j None))

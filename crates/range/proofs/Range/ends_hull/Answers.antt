@@ -5,5 +5,5 @@ use Rattle.range.proofs.Range.ends_hull.Goals as goal
 
 pub returns : goal.returns
 returns c =
-    ends c.lesser.result c.greater.result (search rules) (search rules)
-    (search (rules, c.lesser.ensures)) (search (rules, c.greater.ensures))
+    ends c.min.result c.max.result (search rules) (search rules)
+    (search (rules, c.min.ensures)) (search (rules, c.max.ensures))

@@ -1,14 +1,13 @@
 -- `range::Range::inverse` meets its contract. Assumes nothing.
-use borrow.Author.Rules.{rules}
-use Rattle.range.proofs.Fitting.{branching}
+use mathlib.Core.Path.{◌∙◌, ap}
+use mathlib.Core.Path.{refl}
+use Rattle.range.specs.Limit.{over}
+use Rattle.range.specs.Arithmetic.{inverse_of}
 use Rattle.range.proofs.Inverting.{inverse-invalid}
 use Rattle.range.proofs.Range.inverse.Goals as goal
 
-pub inverse_by_sign-requires : goal.inverse_by_sign-requires
-inverse_by_sign-requires c = search (rules, branching)
+pub returns-in_default : goal.returns-in_default
+returns-in_default c = inverse-invalid c.args.self over (rw c.in_default.is at c.checked.ensures.none) refl
 
-pub returns-then-valid : goal.returns-then-valid
-returns-then-valid c = search (rules, c.inverse_by_sign.ensures)
-
-pub returns-else-valid : goal.returns-else-valid
-returns-else-valid c = search (rules, branching, inverse-invalid)
+pub returns : goal.returns
+returns c = c.inverse.ensures ∙ ap inverse_of (rw c.in-Some.is at c.checked.ensures.some)

@@ -1,16 +1,12 @@
 -- `range::Range::negated` meets its contract. Assumes nothing.
-use borrow.Author.Rules.{rules}
-use Rattle.range.specs.Arithmetic.{neg_of}
-use Rattle.range.proofs.Fitting.{branching, neg-kept}
+use mathlib.Core.Path.{◌∙◌, sym}
+use Rattle.range.specs.Arithmetic.{ends_neg, neg_of}
+use Rattle.range.proofs.Fitting.{neg_of-is, sticky₁-none}
 use Rattle.range.proofs.Range.negated.Goals as goal
 
-pub ends_negated-requires : goal.ends_negated-requires
-ends_negated-requires c = search (rules, branching)
-
-pub returns-then-valid : goal.returns-then-valid
+pub returns-in_default : goal.returns-in_default
 unfolding neg_of
-returns-then-valid c = search (rules, branching, neg-kept, c.ends_negated.ensures)
+returns-in_default c = sticky₁-none ends_neg c.args.self (rw c.in_default.is at c.checked.ensures.none)
 
-pub returns-else-valid : goal.returns-else-valid
-unfolding neg_of
-returns-else-valid c = search (rules, branching)
+pub returns : goal.returns
+returns c = let a = c.in-Some.a in rw (sym (rw c.in-Some.is at c.checked.ensures.some)) (c.negated.ensures ∙ sym (neg_of-is a.range a.valid))

@@ -3,7 +3,6 @@ use borrow.Author.Rules.{rules}
 use Rattle.range.specs.Steps.{scaled_within}
 use Rattle.range.proofs.Fitting.{branching}
 use Rattle.range.proofs.Shifting.{ends-divided}
-use Rattle.range.proofs.ScaledWithin.{low-shiftable, high-shiftable}
 use Rattle.range.proofs.Range.scaled_within.Goals as goal
 
 pub returns-then-self : goal.returns-then-self
@@ -13,9 +12,3 @@ returns-then-self c = search (rules, branching, ends-divided)
 pub returns-else-self : goal.returns-else-self
 unfolding scaled_within
 returns-else-self c = search (rules, branching)
-
-pub floor_div-requires : goal.floor_div-requires
-floor_div-requires c = low-shiftable c.args.self c.if-self.true (search rules)
-
-pub ceil_div-requires : goal.ceil_div-requires
-ceil_div-requires c = high-shiftable c.args.self c.if-self.true (search rules)

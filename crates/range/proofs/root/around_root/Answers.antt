@@ -6,13 +6,14 @@ use native.Mathlib.Omega.{arith}
 use native.Mathlib.Nat.{zero-mul, mul-zero}
 use Rattle.range.proofs.Roots.{around-over, around-none, around-made, minus-fits, product-within, root-within, root_over}
 use Rattle.range.proofs.root.around_root.Goals as goal
-use Rattle.range.proofs.root.around_root.Goals.{After-root_up-b}
+use Rattle.range.proofs.root.around_root.Goals.{After-root_up-b, then-x-eq0-via-then-x-eq0, then-x-eq0-via-else-x-eq0+then-y-eq0}
 
 pub returns-then-x-eq0 : goal.returns-then-x-eq0
-returns-then-x-eq0 c = sym (around-none _ (simp (c.if-x-eq0.true, zero-mul)))
-
-pub returns-then-y-eq0 : goal.returns-then-y-eq0
-returns-then-y-eq0 c = sym (around-none _ (simp (c.if-y-eq0.true, mul-zero)))
+returns-then-x-eq0 c =
+    elim c.then-x-eq0.branch [
+      | then-x-eq0-via-then-x-eq0 w ↦ sym (around-none _ (simp (w.if-x-eq0.true, zero-mul)))
+      | then-x-eq0-via-else-x-eq0+then-y-eq0 w ↦ sym (around-none _ (simp (w.if-y-eq0.true, mul-zero)))
+    ]
 
 pub returns-then-y-x : goal.returns-then-y-x
 returns-then-y-x c = sym (around-over _ (root_over _ _ (search rules) c.if-y-x.true))

@@ -3,7 +3,6 @@ use Prim.Native.Nat.{◌+◌, ◌*◌, ◌/◌, ◌%◌, ◌^◌, ◌≤◌}
 use native.Mathlib.Nat.{div-le_self}
 use native.Mathlib.Omega.{arith}
 use lib.Pow.{pow_mono}
-use Rattle.range.proofs.root.first_near.Goals as goal
 use Rattle.range.proofs.root.first_near.Goals.{After-half_digits-h}
 
 -- the power and the quotient, with room for their sum
@@ -12,12 +11,3 @@ sum_bound : (c : After-half_digits-h)
 sum_bound c =
     let h = c.half_digits-h.result in
     omega (arith, pow_mono {i = h} {j = 32} c.half_digits-h.ensures, div-le_self c.args.x (2 ^ h))
-
-pub overflow_add-r : goal.overflow_add-r
-overflow_add-r c = omega (arith, sum_bound c)
-
-pub overflow_add-result : goal.overflow_add-result
-overflow_add-result c = omega (arith, sum_bound c)
-
-pub returns : goal.returns
-returns c = omega (arith, sum_bound c)

@@ -1,37 +1,35 @@
--- `lines::boat_lines` meets its contract: the laws of the loop (`Reading`) at each way out and each turn. Assumes nothing.
-use mathlib.Core.Path.{sym, ◌∙◌}
-use native.Mathlib.Omega.{arith}
-use mir.Syntax.{w64}
-use mir.Facts.{to_z-of_z}
-use borrow.Author.Rules.{rules}
-use Rattle.codelist.proofs.Places.{field-read, field-unread}
-use Rattle.sisters_text.proofs.Reading.{start, leave-bad, leave-more, leave-done, turn}
+-- `lines::boat_lines` meets its contract: each way through a turn (`Reading`). Assumes nothing.
+use Rattle.std.proofs.Common.{◌≡◌, get_or, rules, arith, ap, ◌∙◌, length-set}
+use Rattle.sisters_text.specs.Input.{boat_ends, boats_in, whole_of}
+use Rattle.sisters_text.proofs.Reading.{byte-last, byte-inner, fields-bad, fields-turn, fields-done, read}
 use Rattle.sisters_text.proofs.lines.boat_lines.Goals as goal
+use Rattle.sisters_text.proofs.lines.boat_lines.Goals.{then-a-n-eq0, else-a-n-eq0}
 
-pub loop-a-init : goal.loop-a-init
-loop-a-init c = start _ _ _
+pub returns-in_err-w-clause-read : goal.returns-in_err-w-clause-read
+unfolding boats_in
+returns-in_err-w-clause-read c =
+    let e : c.if-a-n-eq0.end ≡ get_or (boat_ends c.args.n) c.loop-a.a 0 =
+    elim c.if-a-n-eq0.branch [
+      | then-a-n-eq0 w ↦ w.end-is ∙ byte-last _ _ c.loop-a-test.true w.if-a-n-eq0.true
+      | else-a-n-eq0 w ↦ w.end-is ∙ byte-inner _ _ c.loop-a-test.true w.if-a-n-eq0.false
+    ] in
+    rw c.from_residual.ensures (ap whole_of (fields-bad _ _ _ _ _ c.loop-a-test.true (search rules) e c.in_err-w.ensures ∙ c.loop-a.invariant.same))
 
 pub loop-a-preserved : goal.loop-a-preserved
 loop-a-preserved c =
-    let a = c.args in
-    turn a.s.now a.from a.n c.loop-a.values c.loop-a.at c.loop-a.a c.loop-a.invariant c.byte_after.result _ _ _
-    c.requires c.loop-a-test.true (search rules) c.byte_after.ensures
-    (field-read c.byte_after.result a.s.now _ _ _ (search rules) (sym c.field_at.ensures ∙ c.in-Good.is))
-    (to_z-of_z {w = w64} (search rules) ∙ c.value.ensures)
-
-pub returns-in-Bad : goal.returns-in-Bad
-returns-in-Bad c =
-    let a = c.args in record {
-      result_value = leave-bad a.s.now a.from a.n c.loop-a.values c.loop-a.at c.loop-a.a c.loop-a.invariant c.byte_after.result
-          c.loop-a-test.true c.byte_after.ensures
-          (field-unread c.byte_after.result a.s.now _ (search rules) (sym c.field_at.ensures ∙ c.in-Bad.is));
-      count_bound = omega arith;
+    let e : c.if-a-n-eq0.end ≡ get_or (boat_ends c.args.n) c.loop-a.a 0 =
+    elim c.if-a-n-eq0.branch [
+      | then-a-n-eq0 w ↦ w.end-is ∙ byte-last _ _ c.loop-a-test.true w.if-a-n-eq0.true
+      | else-a-n-eq0 w ↦ w.end-is ∙ byte-inner _ _ c.loop-a-test.true w.if-a-n-eq0.false
+    ] in
+    record {
+      whole = length-set _ _ _ ∙ c.loop-a.invariant.whole;
+      same = fields-turn _ _ _ _ _ c.loop-a-test.true (search rules) e _ _ _ c.requires c.loop-a.invariant.whole c.in_ok-w.ensures (search rules)
+          ∙ c.loop-a.invariant.same;
     }
 
-pub returns-then-at-s : goal.returns-then-at-s
-returns-then-at-s c =
-    let a = c.args in record { result_value = leave-more a.s.now a.from a.n c.loop-a.values c.loop-a.at c.loop-a.a c.loop-a.invariant c.loop-a-test.false c.if-at-s.true; count_bound = omega arith }
-
-pub returns : goal.returns
-returns c =
-    let a = c.args in record { result_value = leave-done a.s.now a.from a.n c.loop-a.values c.loop-a.at c.loop-a.a c.loop-a.invariant c.loop-a-test.false c.if-at-s.false; count_bound = omega (arith, c.requires) }
+pub returns-clause-read : goal.returns-clause-read
+unfolding boats_in
+returns-clause-read c =
+    rw (c.then_some.ensures, c.is_empty.ensures)
+    (read c.args.n c.loop-a.rest.now c.loop-a.values ∙ ap whole_of (fields-done _ _ _ _ (omega arith) ∙ c.loop-a.invariant.same))

@@ -4,25 +4,10 @@ use native.Mathlib.Omega.{arith}
 use lib.IntN.{ℤ, pos, ◌+ℤ◌}
 use mir.Syntax.{w64}
 use mir.Val.{to_z, of_z}
-use Rattle.exact.proofs.Machine.{fits-abs}
 use Rattle.increments.specs.declared.total.Total.{Total}
 use Rattle.increments.specs.Steps.{rounded_down}
 use Rattle.increments.proofs.Totals.{few-read, raised_total, raised-few, up-down, up-read}
 use Rattle.increments.proofs.total.Total.rounded_up.Goals as goal
-
-pub overflow_add-raised : goal.overflow_add-raised
-overflow_add-raised c =
-    let t : Total = c.args.self in
-    let rest_read : to_z w64 (of_z w64 t.rest) ≡ t.rest = few-read t.rest (omega (arith, c.requires.rest)) in
-    rw rest_read (fits-abs (t.rest +ℤ pos 9999) (omega (arith, raised-few t c.requires)))
-
-pub rounded_down-requires : goal.rounded_down-requires
-rounded_down-requires c =
-    let t : Total = c.args.self in
-    let whole-read : to_z w64 (of_z w64 t.whole) ≡ t.whole = few-read t.whole (omega (arith, c.requires.whole)) in
-    let rest_read : to_z w64 (of_z w64 t.rest) ≡ t.rest = few-read t.rest (omega (arith, c.requires.rest)) in
-    let raised-read : to_z w64 (of_z w64 (to_z w64 (of_z w64 t.rest) +ℤ pos 9999)) ≡ t.rest +ℤ pos 9999 = rw rest_read (few-read (t.rest +ℤ pos 9999) (omega (arith, raised-few t c.requires))) in
-    record { whole_bound = rw whole-read c.requires.whole; rest_bound = rw raised-read (raised-few t c.requires) }
 
 pub returns : goal.returns
 returns c =

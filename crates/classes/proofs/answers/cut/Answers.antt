@@ -1,6 +1,0 @@
--- `answers::cut` meets its contract.
-use borrow.Author.Rules.{rules}
-use Rattle.classes.proofs.answers.cut.Goals as goal
-
-pub returns : goal.returns
-returns c = search (rules, c.of_cut.ensures)

@@ -1,0 +1,14 @@
+-- `multiplier_fits` meets its contract: each arm is a case of its definition.
+use Rattle.std.proofs.Common.{arith}
+use Rattle.std.proofs.lemmas.Grind.{common_steps}
+use Rattle.std.proofs.lemmas.Bool.Decides.{nat_tests}
+use Rattle.codelist.specs.Conditions.{multiplier_fits}
+use Rattle.codelist.proofs.lines.Line.multiplier_fits.Goals as goal
+
+pub returns-in-MulC : goal.returns-in-MulC
+unfolding multiplier_fits
+returns-in-MulC c = grind (arith, nat_tests, common_steps)
+
+pub returns-in_default : goal.returns-in_default
+unfolding multiplier_fits
+returns-in_default c = grind (arith, nat_tests, common_steps)

@@ -1,8 +1,0 @@
--- `fleet_text::refusal` meets its contract. Assumes nothing.
-use Rattle.writer.proofs.Writing.{put_refused}
-use Rattle.fleet_text.specs.Output.{refusal_text}
-use Rattle.fleet_text.proofs.refusal.Goals as goal
-
-pub returns : goal.returns
-unfolding refusal_text
-returns c = put_refused _ _ c.refusal.ensures c.number-number.ensures c.place-place.ensures

@@ -1,0 +1,7 @@
+-- `Text::refusal` meets its contract: its bytes have room for what is written. Assumes nothing.
+use borrow.Author.Rules.{rules}
+use Rattle.writer.proofs.Writing.{within}
+use Rattle.writer.proofs.Text.refusal.Goals as goal
+
+pub invariant_of-self : goal.invariant_of-self
+invariant_of-self g c = within _ _ _ _ c.refusal-self-inside.ensures (search rules) c.self.invariant
