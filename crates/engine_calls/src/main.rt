@@ -17,49 +17,35 @@ fn number_and_place(refusal: Option<Refusal>) -> (u8, u64) {
     }
 }
 
-// "A pair beyond the last factor is 0, 0": no sheet here has more than two factors.
-fn rest_is_zero(g: [Range; 8]) -> bool {
-    g[2..].iter().all(|r| *r == Range::ZERO)
-}
-
-// Limits of which value and slopes are those ranges, both bends are the same, and so are both sets.
-fn limits_are(l: Limits, value: Range, first: Range, second: Range, bend: Range, set: u8) -> bool {
-    let g = l.gradient;
-    let ranges = (l.value == value)
-        & (g[0] == first)
-        & (g[1] == second)
-        & (l.spectrum == bend)
-        & (l.full == bend);
-    ranges & rest_is_zero(g) & (l.support == set) & (l.nonlinear == set)
+// Limits of which value and slopes are those ranges, both bends are the same, and so are both sets. "A pair beyond the last factor is 0, 0": no sheet here has
+// more than two factors.
+fn limits(value: Range, first: Range, second: Range, bend: Range, set: u8) -> Limits {
+    let zero = Range::ZERO;
+    Limits {
+        value,
+        gradient: [first, second, zero, zero, zero, zero, zero, zero],
+        support: set,
+        nonlinear: set,
+        spectrum: bend,
+        full: bend,
+    }
 }
 
 // Whose limits they are, by the number that is printed. 01's figures: "every other field is 0"; V 10000..90000, G 20000..60000, E 20000..20000 of the square on 10000..30000; of two
 // squares on 0..10000, added, V and both slopes 0..20000, E 20000..20000.
 fn whose(l: Limits) -> u64 {
     let zero = Range::ZERO;
-    let two = Range {
-        low: 20_000,
-        high: 20_000,
-    };
-    if limits_are(l, zero, zero, zero, zero, 0) {
+    let two = Range::new(20_000, 20_000);
+    if l == Limits::ZERO {
         return 0;
     }
-    let value = Range {
-        low: 10_000,
-        high: 90_000,
-    };
-    let slope = Range {
-        low: 20_000,
-        high: 60_000,
-    };
-    if limits_are(l, value, slope, zero, two, 1) {
+    let value = Range::new(10_000, 90_000);
+    let slope = Range::new(20_000, 60_000);
+    if l == limits(value, slope, zero, two, 1) {
         return 1;
     }
-    let wide = Range {
-        low: 0,
-        high: 20_000,
-    };
-    if limits_are(l, wide, wide, wide, two, 3) {
+    let wide = Range::new(0, 20_000);
+    if l == limits(wide, wide, wide, two, 3) {
         return 2;
     }
     3

@@ -45,11 +45,7 @@ fn edge_of(line: &str) -> Option<Edge<'_>> {
         number: number.parse::<u8>().ok()?,
         place: place.parse::<u64>().ok()?,
     };
-    let wanted = if refused == ACCEPTED {
-        None
-    } else {
-        Some(refused)
-    };
+    let wanted = (refused != ACCEPTED).then_some(refused);
     Some(Edge { wanted, written })
 }
 

@@ -25,7 +25,7 @@ fn answer(job: &[u8], input: &[u8], times: u64) -> Text {
     }
 }
 
-// How often: the number that the argument writes, else once.
+// How often: the number that the argument writes, else once. As in `cut_many`: a program each, and no library of theirs.
 fn times_of(arg: &[u8]) -> u64 {
     str::from_utf8(arg)
         .ok()
