@@ -23,13 +23,12 @@ pub(crate) fn width(r: Range) -> i64
     r.high - r.low
 }
 
-// The middle, rounded down.
+// The middle, rounded down: both ends are at least −2,000,000,000, so that what is divided is not below 0.
 pub(crate) fn middle(r: Range) -> i64
     requires { is_valid r ≡ true }
     ensures { result ≡ Cut.cut_point r }
 {
-    let sum = r.low + r.high;
-    sum.div_euclid(2)
+    (r.low + r.high + 4_000_000_000) / 2 - 2_000_000_000
 }
 
 // The factor with the widest range, counted from 0, the lowest on equal width.

@@ -1,5 +1,5 @@
--- the code: division, the sums, and whether both boats are of the class
-pub mod Dividing
+-- the code: division by a shift, the sums, and whether both boats are of the class
+pub mod Shifting
 pub mod Totals
 pub mod Outside
 pub mod Answers

@@ -31,7 +31,7 @@ use Rattle.range.proofs.Valid.{ends-of, true-T}
 use Rattle.increments.specs.declared.total.Total.{Total}
 use Rattle.increments.specs.Call.{first, second, apart_by, least_sum, greatest_sum}
 use Rattle.increments.specs.Steps.{least_end, greatest_end, Room, with_product, rounded_down, rounded_up, Apart}
-use Rattle.increments.proofs.Dividing.{floor-small}
+use Rattle.increments.proofs.Shifting.{floor-abs}
 
 -- ════ the ends ════
 
@@ -136,6 +136,9 @@ module _ (e d : ℤ) (w : InLimit e) (f : Near d) where
   pub remainder-times : nat_abs (remainder e *ℤ d) ≤ 39996000000000
   remainder-times = times-few (remainder e) d (remainder-few e w) f
 
+  pub multiple-few : nat_abs (pos 10000 *ℤ quotient e) ≤ 2000000000
+  multiple-few = times-few (pos 10000) (quotient e) {m = 10000} (omega arith) (quotient-few e w)
+
 module _ (t : Total) (r : Room t) where
   pub whole-more : (x : ℤ) → nat_abs x ≤ 1000000000000000 → nat_abs (t.whole +ℤ x) ≤ 11000000000000000
   whole-more x h = omega (arith, add-abs t.whole x, r.whole)
@@ -144,11 +147,11 @@ module _ (t : Total) (r : Room t) where
   rest_more x h = omega (arith, add-abs t.rest x, r.rest)
 
 -- the sum, rounded; rounded up it is that of 9,999 more, rounded down
-pub down-read : (t : Total) → nat_abs t.whole ≤ 10000000000000000 → nat_abs t.rest ≤ 9223372036854775808
+pub down-read : (t : Total) → nat_abs t.whole ≤ 10000000000000000 → nat_abs t.rest ≤ 1000000000000000
     → to_z w64 (of_z w64 (rounded_down t)) ≡ rounded_down t
 down-read t w r =
     let q = floor_div t.rest 10000 in
-    few-read (rounded_down t) (omega (arith, add-abs t.whole q, floor-small t.rest))
+    few-read (rounded_down t) (omega (arith, add-abs t.whole q, floor-abs t.rest))
 
 abbrev pub raised_total : Total → Total
 raised_total t = record { whole = t.whole; rest = t.rest +ℤ pos 9999 }
@@ -161,7 +164,7 @@ module _ (t : Total) (r : Room t) where
   raised-few = omega (arith, add-abs t.rest (pos 9999), r.rest)
 
   pub up-read : to_z w64 (of_z w64 (rounded_up t)) ≡ rounded_up t
-  up-read = rw (up-down t) (down-read (raised_total t) r.whole (omega (arith, raised-few)))
+  up-read = rw (up-down t) (down-read (raised_total t) r.whole raised-few)
 
 -- ════ the loop ════
 

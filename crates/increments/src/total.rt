@@ -1,10 +1,19 @@
 // The sums of the least and of the greatest products of each slope's ends with that factor's difference.
 ghost use Rattle.std.specs.Prelude.{◌≡◌, ◌≤◌, nat_abs, Ok};
+ghost use Rattle.exact.specs.Div.{floor_div};
 ghost use Rattle.range.specs.Limit.{from_to};
 ghost use Rattle.increments.specs.Call.{difference_of, in_full};
 ghost use Rattle.increments.specs.Steps.{least_end, greatest_end, Room, with_product, rounded_down, rounded_up, Apart};
 
 use range::Range;
+
+// x / 10,000, rounded toward minus infinity. What is divided is raised by 10^15, so that it is not below 0: no branch on its sign, as `div_euclid` has.
+fn floor_div(x: i64) -> i64
+    requires { nat_abs x ≤ 1000000000000000 }
+    ensures { result ≡ floor_div x 10000 }
+{
+    (x + 1_000_000_000_000_000) / 10_000 - 100_000_000_000
+}
 
 // A sum of products, exact: 10,000 times `whole`, and `rest`. Eight products of slopes and differences may not fit 64 bits.
 // With a sign, where `Squares` of range has none. `plus` does not keep `Room`, so that it is no invariant.
@@ -24,18 +33,20 @@ impl Total {
         requires d_bound { nat_abs d ≤ 4000000000 }
         ensures { result ≡ with_product self e d }
     {
+        let q = floor_div(e);
         Total {
-            whole: self.whole + e.div_euclid(10_000) * d,
-            rest: self.rest + e.rem_euclid(10_000) * d,
+            whole: self.whole + q * d,
+            rest: self.rest + (e - 10_000 * q) * d,
         }
     }
 
     // The sum divided by 10,000, once, and rounded down.
     fn rounded_down(self) -> i64
-        requires { nat_abs self.whole ≤ 10000000000000000 }
+        requires whole_bound { nat_abs self.whole ≤ 10000000000000000 }
+        requires rest_bound { nat_abs self.rest ≤ 1000000000000000 }
         ensures { result ≡ rounded_down self }
     {
-        self.whole + self.rest.div_euclid(10_000)
+        self.whole + floor_div(self.rest)
     }
 
     // And rounded up, which is down from 9,999 more.

@@ -1,23 +1,26 @@
 -- `increments::total::Total::rounded_down` meets its contract. Assumes nothing.
-use borrow.Author.Rules.{rules}
-use mathlib.Core.Path.{◌≡◌, ap, ap₂, ◌∙◌}
-use lib.IntN.{ℤ, pos, nat_abs, ◌+ℤ◌}
-use Prim.Native.Nat.{◌≤◌}
-use mir.Syntax.{w64}
-use mir.Val.{to_z, of_z}
-use Rattle.std.specs.Int.{int_div_euclid}
+use mathlib.Core.Path.{◌≡◌, ap, ◌∙◌}
+use native.Mathlib.Omega.{arith}
+use lib.IntN.{ℤ, ◌+ℤ◌}
+use Rattle.algebra.proofs.Int.{add-abs}
 use Rattle.exact.specs.Div.{floor_div}
-use Rattle.increments.proofs.Dividing.{quotient-is}
-use Rattle.increments.proofs.Totals.{down-read}
+use Rattle.exact.proofs.Machine.{fits-abs}
+use Rattle.increments.proofs.Shifting.{floor-abs}
+use Rattle.increments.proofs.Totals.{few-read, down-read}
 use Rattle.increments.proofs.total.Total.rounded_down.Goals as goal
+
+pub overflow_add-result : goal.overflow_add-result
+overflow_add-result c =
+    let q : ℤ = floor_div c.args.self.rest 10000 in
+    let is : c.floor_div.result ≡ q = c.floor_div.ensures ∙ ap (λ (z : ℤ). floor_div z 10000) (few-read c.args.self.rest (omega (arith, c.requires.rest_bound))) in
+    let t = c.args.self in
+    simp (few-read t.whole (omega (arith, c.requires.whole_bound)), is, few-read q (omega (arith, floor-abs t.rest, c.requires.rest_bound)))
+    (fits-abs (t.whole +ℤ q) (omega (arith, add-abs t.whole q, floor-abs t.rest, c.requires.whole_bound, c.requires.rest_bound)))
 
 pub returns : goal.returns
 returns c =
+    let q : ℤ = floor_div c.args.self.rest 10000 in
+    let is : c.floor_div.result ≡ q = c.floor_div.ensures ∙ ap (λ (z : ℤ). floor_div z 10000) (few-read c.args.self.rest (omega (arith, c.requires.rest_bound))) in
     let t = c.args.self in
-    let whole-read : to_z w64 (of_z w64 t.whole) ≡ t.whole = search rules in
-    let rest-read : to_z w64 (of_z w64 t.rest) ≡ t.rest = search rules in
-    let few : nat_abs t.rest ≤ 9223372036854775808 = search rules in
-    let divided : c.div_euclid.result ≡ floor_div t.rest 10000 =
-    c.div_euclid.ensures ∙ (ap (λ (z : ℤ). int_div_euclid z (pos 10000)) rest-read ∙ quotient-is t.rest) in
-    let quotient-read : to_z w64 (of_z w64 c.div_euclid.result) ≡ c.div_euclid.result = search rules in
-    ap₂ (λ (x y : ℤ). to_z w64 (of_z w64 (x +ℤ y))) whole-read (quotient-read ∙ divided) ∙ down-read t c.requires few
+    simp (few-read t.whole (omega (arith, c.requires.whole_bound)), is, few-read q (omega (arith, floor-abs t.rest, c.requires.rest_bound)))
+    (down-read t c.requires.whole_bound c.requires.rest_bound)
