@@ -6,15 +6,25 @@
 // is 255; `\(..\)62;` is what stands between the brackets, 62 times.
 #![tactic(auto)]
 
-use std::alloc::{AllocError, Global};
 use std::{fmt, io};
 
-// Why a text is refused.
+// The longest table that is read, and room for a text that is too long: what is beyond either is left out.
+const MOST_TABLE: usize = 8192;
+
+const ROOM: usize = 4200;
+
+// Why a text is refused: 0 at 0 where it is accepted.
 #[derive(Clone, Copy, PartialEq, Eq)]
 struct Refused {
-    number: u8,
+    number: u64,
     place: u64,
 }
+
+// What the table writes for a text that is accepted.
+const ACCEPTED: Refused = Refused {
+    number: 0,
+    place: 0,
+};
 
 impl fmt::Display for Refused {
     fn fmt<W: fmt::Write>(&self, f: &mut fmt::Formatter<W>) -> fmt::Result {
@@ -24,37 +34,42 @@ impl fmt::Display for Refused {
     }
 }
 
-// What the table writes for a text that is accepted.
-const ACCEPTED: Refused = Refused {
-    number: 0,
-    place: 0,
-};
-
-// A line of the table: why its text is to be refused, if it is, and the text as it is written there.
-#[derive(Clone, Copy)]
-struct Edge<'a> {
-    wanted: Option<Refused>,
-    written: &'a str,
+// A text as far as it is written. What is past the room is left out.
+#[derive(Drop)]
+struct Text {
+    bytes: [u8; ROOM],
+    len: usize,
 }
 
-// The edge of a line, or none where it is a comment.
-fn edge_of(line: &str) -> Option<Edge<'_>> {
-    let (number, rest) = line.split_once(' ')?;
-    let (place, written) = rest.split_once(' ')?;
-    let refused = Refused {
-        number: number.parse::<u8>().ok()?,
-        place: place.parse::<u64>().ok()?,
-    };
-    let wanted = (refused != ACCEPTED).then_some(refused);
-    Some(Edge { wanted, written })
+impl Text {
+    fn push(&mut self, b: u8) {
+        if let Some(place) = self.bytes.get_mut(self.len) {
+            *place = b;
+            self.len += 1;
+        }
+    }
+
+    // What stands from `mark` on, so many times in all.
+    fn repeat(&mut self, mark: usize, times: u64) {
+        let end = self.len;
+        for _ in 1..times {
+            for i in mark..end {
+                let b = self.bytes.get(i).copied();
+                if let Some(b) = b {
+                    self.push(b);
+                }
+            }
+        }
+    }
 }
 
-// What the next byte of a written text is: a byte of the text, what follows a backslash, or a digit of a count.
-#[derive(Clone, Copy)]
-enum Mode {
-    Plain,
-    Escape,
-    Times(u64),
+// A number with one digit more, as far as the table has them.
+fn with_digit(n: u64, b: u8) -> u64 {
+    if n < 100_000 && b'0' <= b {
+        n * 10 + u64::from(b - b'0')
+    } else {
+        n
+    }
 }
 
 // The byte that is written so after a backslash.
@@ -69,47 +84,67 @@ fn escaped(b: u8) -> u8 {
     }
 }
 
-// The bytes of a text from `mark` on, so many times in all.
-fn repeat(alloc: Global, text: &mut Vec<u8>, mark: usize, times: u64) -> Result<(), AllocError> {
-    let mut part = Vec::new(alloc);
-    part.extend_from_slice(&text[mark.min(text.len())..])?;
-    for _ in 1..times {
-        text.extend_from_slice(&part)?;
-    }
-    Ok(())
+// What the next byte of a line belongs to: its number, its place, its text, what follows a backslash, a count after a bracket, a comment.
+#[derive(Clone, Copy)]
+enum Mode {
+    Number,
+    Place,
+    Plain,
+    Escape,
+    Times(u64),
+    Comment,
 }
 
-// The text that is written so.
-fn text_of(alloc: Global, written: &str) -> Result<Vec<u8>, AllocError> {
-    let mut text = Vec::new(alloc);
-    let mut mark = 0;
-    let mut mode = Mode::Plain;
-    for b in written.as_bytes() {
-        mode = match (mode, *b) {
+// What is read of a line beside its text.
+#[derive(Clone, Copy)]
+struct Line {
+    mode: Mode,
+    wanted: Refused,
+    mark: usize,
+}
+
+const START: Line = Line {
+    mode: Mode::Number,
+    wanted: ACCEPTED,
+    mark: 0,
+};
+
+impl Line {
+    // One byte more.
+    fn take(&mut self, text: &mut Text, b: u8) {
+        self.mode = match (self.mode, b) {
+            (Mode::Comment, _) | (Mode::Number | Mode::Place, b'#') => Mode::Comment,
+            (Mode::Number, b' ') => Mode::Place,
+            (Mode::Number, _) => {
+                self.wanted.number = with_digit(self.wanted.number, b);
+                Mode::Number
+            }
+            (Mode::Place, b' ') => Mode::Plain,
+            (Mode::Place, _) => {
+                self.wanted.place = with_digit(self.wanted.place, b);
+                Mode::Place
+            }
             (Mode::Plain, b'\\') => Mode::Escape,
-            (Mode::Plain, b) => {
-                text.push(b)?;
+            (Mode::Plain, _) => {
+                text.push(b);
                 Mode::Plain
             }
             (Mode::Escape, b'(') => {
-                mark = text.len();
+                self.mark = text.len;
                 Mode::Plain
             }
             (Mode::Escape, b')') => Mode::Times(0),
-            (Mode::Escape, b) => {
-                text.push(escaped(b))?;
+            (Mode::Escape, _) => {
+                text.push(escaped(b));
                 Mode::Plain
             }
-            (Mode::Times(n), b'0'..=b'9') => {
-                Mode::Times(n.wrapping_mul(10).wrapping_add(u64::from(*b - b'0')))
-            }
-            (Mode::Times(n), _) => {
-                repeat(alloc, &mut text, mark, n)?;
+            (Mode::Times(n), b';') => {
+                text.repeat(self.mark, n);
                 Mode::Plain
             }
+            (Mode::Times(n), _) => Mode::Times(with_digit(n, b)),
         };
     }
-    Ok(text)
 }
 
 // How many edges were tried, how many were missed, and the length of the longest text that was accepted.
@@ -122,46 +157,63 @@ struct Tally {
 
 impl Tally {
     // The text is refused as it is to be, and the codelist of one that is accepted can be rated.
-    fn take(&mut self, out: &impl Print, text: &[u8], wanted: Option<Refused>) -> io::Result<()> {
+    fn take(&mut self, out: &impl Print, text: &[u8], wanted: Refused) -> io::Result<()> {
         let (found, kept) = match codelist::load(text) {
-            Ok(c) => (None, codelist::is_ratable(c)),
+            Ok(c) => (ACCEPTED, codelist::is_ratable(c)),
             Err(why) => {
                 let found = Refused {
-                    number: why.number(),
+                    number: u64::from(why.number()),
                     place: why.place(),
                 };
-                (Some(found), true)
+                (found, false)
             }
         };
+        let accepted = wanted.number == 0;
         self.tried = self.tried.saturating_add(1);
-        if found != wanted || !kept {
+        if found != wanted || kept != accepted {
             self.missed = self.missed.saturating_add(1);
-            let wanted = wanted.unwrap_or(ACCEPTED);
-            let found = found.unwrap_or(ACCEPTED);
             println!(out; "missed: {wanted}, found {found}, for")?;
             out.write_all(text)?;
             return out.write_all(b"\n");
         }
-        if found.is_none() {
+        if accepted {
             self.longest = self.longest.max(text.len());
         }
         Ok(())
     }
 }
 
-fn main(rt: HostRuntime) -> io::Result<()> {
-    let table = io::read_to_string(rt.alloc(), rt.stdin())?;
+// Tries the edges of a table. A line that does not end with byte 10, or ends before its text or inside what is escaped, has none.
+fn try_all(out: &impl Print, table: &[u8]) -> io::Result<Tally> {
     let mut tally = Tally {
         tried: 0,
         missed: 0,
         longest: 0,
     };
-    for line in table.lines() {
-        if let Some(edge) = edge_of(line) {
-            let text = text_of(rt.alloc(), edge.written)?;
-            tally.take(&rt, &text, edge.wanted)?;
+    let mut text = Text {
+        bytes: [0; ROOM],
+        len: 0,
+    };
+    let mut line = START;
+    for b in table {
+        if *b != b'\n' {
+            line.take(&mut text, *b);
+            continue;
         }
+        if let Mode::Plain = line.mode {
+            let n = text.len.min(ROOM);
+            tally.take(out, &text.bytes[..n], line.wanted)?;
+        }
+        line = START;
+        text.len = 0;
     }
+    Ok(tally)
+}
+
+fn main(rt: HostRuntime) -> io::Result<()> {
+    let mut table = [0u8; MOST_TABLE];
+    let n = streams::read_full(&mut rt.stdin(), &mut table)?;
+    let tally = try_all(&rt, &table[..n])?;
     println!(rt;
         "{} edges, missed {}, longest accepted {}",
         tally.tried, tally.missed, tally.longest
