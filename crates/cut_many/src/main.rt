@@ -4,17 +4,17 @@
 #![tactic(auto)]
 
 use std::env::Env;
-use std::{io, str};
+use std::io;
 use text::Text;
 
 fn main(rt: HostRuntime) -> io::Result<()> {
     let mut arg = [0u8; 16];
-    let k = rt.arg(1, &mut arg).unwrap_or(0);
+    let _ = rt.arg(1, &mut arg);
     let mut job = [0u8; 16];
     let j = rt.arg(2, &mut job).unwrap_or(0);
     let mut input = [0u8; 8193];
     let n = streams::read_full(&mut rt.stdin(), &mut input)?;
-    rt.write_all(answer(&job[..j], &input[..n], times_of(&arg[..k])).as_slice())
+    rt.write_all(answer(&job[..j], &input[..n], times_of(&arg)).as_slice())
 }
 
 // What the job prints: `rate` is ratings, and no job is cuts.
@@ -25,10 +25,7 @@ fn answer(job: &[u8], input: &[u8], times: u64) -> Text {
     }
 }
 
-// How often: the number that the argument writes, else once. As in `rate_many`: a program each, and no library of theirs.
+// How often: the numeral that the bytes begin with, where a byte 0 follows it, as one does in a longer array; else once.
 fn times_of(arg: &[u8]) -> u64 {
-    str::from_utf8(arg)
-        .ok()
-        .and_then(|s| s.parse().ok())
-        .unwrap_or(1)
+    codelist::field(arg, 0).map_or(1, |(times, _)| times.magnitude)
 }

@@ -3,7 +3,7 @@
 
 use fleet_text::Form;
 use std::env::Env;
-use std::{io, str};
+use std::io;
 use text::Text;
 
 fn main(rt: HostRuntime) -> io::Result<()> {
@@ -25,10 +25,14 @@ fn answer(job: &[u8], input: &[u8], times: u64) -> Text {
     }
 }
 
-// How often: the number that the argument writes, else once. As in `cut_many`: a program each, and no library of theirs.
+// How often: the number that decimal digits write, up to the first other byte and to ten digits.
 fn times_of(arg: &[u8]) -> u64 {
-    str::from_utf8(arg)
-        .ok()
-        .and_then(|s| s.parse().ok())
-        .unwrap_or(1)
+    let mut times: u64 = 0;
+    for b in arg {
+        if !b.is_ascii_digit() || 1_000_000_000 <= times {
+            break;
+        }
+        times = times * 10 + u64::from(*b - b'0');
+    }
+    times
 }
