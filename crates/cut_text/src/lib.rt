@@ -97,7 +97,7 @@ fn refused(out: &mut Text, why: Refusal)
     ensures { out.new ≡ put_text out.old (refused_text why) }
 {
     match why {
-        Refusal::Load(why) => text::refusal(out, why),
+        Refusal::Load(why) => text::printing::refusal(out, why),
         Refusal::Cut(why) => out.refusal(u64::from(why.number()), why.place()),
     }
 }
@@ -115,7 +115,7 @@ pub fn answer_after(input: &[u8], times: u64) -> Text
 {
     let mut out = Text::new();
     match cut(input, times) {
-        Ok((n, limits)) => text::limits(&mut out, n, limits),
+        Ok((n, limits)) => text::printing::limits(&mut out, n, limits),
         Err(why) => refused(&mut out, why),
     }
     out

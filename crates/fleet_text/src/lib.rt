@@ -95,7 +95,7 @@ fn refused(out: &mut Text, why: Refusal)
     ensures { out.new ≡ put_text out.old (refused_text why) }
 {
     match why {
-        Refusal::Load(why) => text::refusal(out, why),
+        Refusal::Load(why) => text::printing::refusal(out, why),
         Refusal::Page(why) => out.refusal(u64::from(why.number()), why.place()),
     }
 }

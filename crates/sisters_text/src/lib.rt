@@ -44,9 +44,9 @@ pub fn answer(input: &[u8]) -> Text
     match difference(input) {
         Ok(x) => {
             out.word(b"difference");
-            text::range_fields(&mut out, x);
+            text::printing::range_fields(&mut out, x);
         }
-        Err(why) => text::refusal(&mut out, why),
+        Err(why) => text::printing::refusal(&mut out, why),
     }
     out
 }

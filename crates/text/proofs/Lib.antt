@@ -1,5 +1,6 @@
 pub mod Writing
 pub mod Splitting
+pub mod Padded
 pub mod Reading
 pub mod Members
 pub mod Answering

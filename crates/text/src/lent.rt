@@ -1,5 +1,5 @@
-// What the program prints of a result and of a refusal, put into lent bytes of any length: these functions are public. A `Text` has its own bytes, and what
-// is put there stands beside in lib.rt.
+// What the program prints of a result and of a refusal, put into lent bytes of any length: the crate's functions by these names. A `Text` has its own
+// bytes, and what is put there stands beside in printing.rt.
 ghost use Rattle.std.specs.Prelude.{◌≡◌};
 ghost use Rattle.writer.specs.Lent.{lent, put_text};
 ghost use Rattle.text.specs.Output.{natural_field, whole_field, range_fields, slope_lines, set_fields, limits_text, refusal_text};

@@ -1,18 +1,17 @@
 // The text side of the program `rate`: where the sheet ends, the box lines, and what is printed. What is printed is put into a text, piece after piece.
 #![tactic(auto)]
 
-ghost use Rattle.std.specs.Prelude.{◌≡◌, ◌<◌, true, [], ◌∷◌, ◌++◌, length, MatchOption};
-ghost use Rattle.writer.specs.Lent.{put_text};
+ghost use Rattle.std.specs.Prelude.{◌≡◌, ◌<◌, ◌≤◌, true, [], ◌∷◌, ◌++◌, length, MatchOption};
 ghost use Rattle.text.specs.Input.{is_line, sheet_length, sheet_of, after_line, box_lines};
-ghost use Rattle.text.specs.Output.{natural_field, whole_field, range_fields, slope_lines, set_fields, limits_text, refusal_text};
 ghost use Rattle.text.specs.InFull.{in_full, text_of};
 ghost use Rattle.text.specs.Answer.{answer_of, written};
 ghost use Rattle.text.specs.Boxes.{numbers_of};
 
 pub mod lent; // lent.rt: what is printed, put into lent bytes of any length
+pub mod printing; // printing.rt: the same, put into a `Text`
 
 use engine::{Engine, Refusal};
-use range::Range;
+pub use lent::{limits, range_fields, refusal};
 use rules::Limits;
 use std::marker::Model;
 
@@ -21,82 +20,6 @@ const MOST_INPUT: usize = 8192;
 
 /// What a program prints: no output is longer.
 pub type Text = writer::Text<1024>;
-
-// A tab and a number.
-fn natural_field(out: &mut Text, number: u64)
-    ensures { out.new ≡ put_text out.old (natural_field number) }
-{
-    out.byte(b'\t');
-    out.natural(number);
-}
-
-// A tab and a number with its sign.
-fn whole_field(out: &mut Text, x: i64)
-    ensures { out.new ≡ put_text out.old (whole_field x) }
-{
-    out.byte(b'\t');
-    out.whole(x);
-}
-
-/// The low and the high of a range, and the line's end.
-pub fn range_fields(out: &mut Text, x: Range)
-    ensures { out.new ≡ put_text out.old (range_fields x) }
-{
-    whole_field(out, x.low);
-    whole_field(out, x.high);
-    out.byte(b'\n');
-}
-
-// The slopes of the first n factors. There are eight: of a further one it is zero.
-fn slope_lines(out: &mut Text, n: u8, gradient: [Range; 8])
-    ensures { out.new ≡ put_text out.old (slope_lines n gradient) }
-{
-    // By the factor, whose number is printed.
-    for a in 0..n {
-        out.word(b"slope");
-        natural_field(out, u64::from(a) + 1);
-        range_fields(
-            out,
-            gradient.get(usize::from(a)).copied().unwrap_or(Range::ZERO),
-        );
-    }
-}
-
-// The factors of a set, rising, and the line's end.
-fn set_fields(out: &mut Text, set: u8)
-    ensures { out.new ≡ put_text out.old (set_fields set) }
-{
-    for a in 0..8u8 {
-        if (set >> a) % 2 == 1 {
-            natural_field(out, u64::from(a) + 1);
-        }
-    }
-    out.byte(b'\n');
-}
-
-/// The text of a result for n factors.
-pub fn limits(out: &mut Text, n: u8, l: Limits)
-    ensures { out.new ≡ put_text out.old (limits_text n l) }
-{
-    out.word(b"value");
-    range_fields(out, l.value);
-    slope_lines(out, n, l.gradient);
-    out.word(b"depends");
-    set_fields(out, l.support);
-    out.word(b"bent");
-    set_fields(out, l.nonlinear);
-    out.word(b"bend");
-    range_fields(out, l.spectrum);
-    out.word(b"full");
-    range_fields(out, l.full);
-}
-
-/// The text of a refusal.
-pub fn refusal(out: &mut Text, why: Refusal)
-    ensures { out.new ≡ put_text out.old (refusal_text why) }
-{
-    out.refusal(u64::from(why.number()), why.place());
-}
 
 // Whether a text begins with the line w.
 fn is_line(s: &[u8], w: &[u8]) -> bool
@@ -129,8 +52,8 @@ pub fn parted<'a>(s: &'a [u8], w: &[u8]) -> (&'a [u8], &'a [u8])
 }
 
 /// The numbers of the box lines, two for each: at most sixteen.
-// An array with its count, since no library here allocates.
-#[derive(Drop)]
+// An array with its count, since no library here allocates. Zeros stand behind the numbers, so that these tell the fields, which a copy needs.
+#[derive(Clone, Copy)]
 pub struct Boxes {
     ends: [i64; 16],
     count: usize,
@@ -138,13 +61,18 @@ pub struct Boxes {
 
 // Clauses see the numbers.
 impl Model for Boxes {
-    ghost use Rattle.std.specs.Prelude.{List, ℤ, ◌≤◌, take};
+    ghost use Rattle.std.specs.Prelude.{List, ℤ, length, take};
+    ghost use Rattle.text.specs.Boxes.{sixteen, Fits};
 
     ghost Value = { List ℤ };
 
     ghost view = { λ b. take b.count b.ends };
 
-    ghost invariant = { λ b. b.count ≤ 16 };
+    ghost invariant = { λ b. Fits b.ends b.count };
+
+    ghost inverse = { λ xs. record { ends = sixteen xs; count = length xs } };
+
+    ghost inverse_ok = { λ b h i. record { ends = h.zeros i; count = h.whole i } };
 }
 
 impl Boxes {
@@ -170,7 +98,8 @@ impl Boxes {
     }
 
     pub fn as_slice(&self) -> &[i64]
-        ensures { result.now ≡ self.now }
+        ensures value { result.now ≡ self.now }
+        ensures few { length result.now ≤ 16 }
     {
         &self.ends[..self.count]
     }
@@ -223,8 +152,8 @@ pub fn answer_after(input: &[u8], times: u64) -> Text
 {
     let mut out = Text::new();
     match rated(input, times) {
-        Ok((n, l)) => limits(&mut out, n, l),
-        Err(why) => refusal(&mut out, why),
+        Ok((n, l)) => printing::limits(&mut out, n, l),
+        Err(why) => printing::refusal(&mut out, why),
     }
     out
 }

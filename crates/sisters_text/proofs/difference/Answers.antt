@@ -49,10 +49,10 @@ pub returns-in-Some : goal.returns-in-Some
 returns-in-Some c =
     differ _ c.if-input-gt-MOST_INPUT.false _ (rw (c.new-engine.ensures, c.parted-2.ensures.sheet, c.parted.ensures.sheet) at c.in_ok-load.ensures)
     _ _ _ (ap numbers_of (sym c.in_ok-boxes.ensures.ok_part) ∙ (rw (c.parted-2.ensures.rest, c.parted.ensures.sheet) at c.box_lines.ensures))
-    (rw (c.from-n.ensures, c.parted.ensures.rest) at c.in-Some.ensures.read) (rw (c.as_slice.ensures, c.from-n.ensures) at c.sisters.ensures)
+    (rw (c.from-n.ensures, c.parted.ensures.rest) at c.in-Some.ensures.read) (rw (c.as_slice.ensures.value, c.from-n.ensures) at c.sisters.ensures)
 
 pub returns-in-None : goal.returns-in-None
 returns-in-None c =
     differ _ c.if-input-gt-MOST_INPUT.false _ (rw (c.new-engine.ensures, c.parted-2.ensures.sheet, c.parted.ensures.sheet) at c.in_ok-load.ensures)
     _ _ _ (ap numbers_of (sym c.in_ok-boxes.ensures.ok_part) ∙ (rw (c.parted-2.ensures.rest, c.parted.ensures.sheet) at c.box_lines.ensures))
-    (rw (c.from-n.ensures, c.parted.ensures.rest) at c.in-None.ensures.read) (rw c.as_slice-in-None.ensures at c.sisters-in-None.ensures)
+    (rw (c.from-n.ensures, c.parted.ensures.rest) at c.in-None.ensures.read) (rw c.as_slice-in-None.ensures.value at c.sisters-in-None.ensures)

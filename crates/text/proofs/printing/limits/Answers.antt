@@ -1,7 +1,7 @@
--- `text::limits` meets its contract: the lines one after another. Assumes nothing.
+-- `text::printing::limits` meets its contract: the lines one after another. Assumes nothing.
 use Rattle.writer.proofs.Writing.{then}
 use Rattle.text.specs.Output.{limits_text}
-use Rattle.text.proofs.limits.Goals as goal
+use Rattle.text.proofs.printing.limits.Goals as goal
 
 pub returns : goal.returns
 unfolding limits_text

@@ -1,7 +1,7 @@
--- `text::natural_field` meets its contract. Assumes nothing.
+-- `text::printing::natural_field` meets its contract. Assumes nothing.
 use Rattle.writer.proofs.Writing.{put_then}
 use Rattle.text.specs.Output.{natural_field}
-use Rattle.text.proofs.natural_field.Goals as goal
+use Rattle.text.proofs.printing.natural_field.Goals as goal
 
 pub returns : goal.returns
 unfolding natural_field

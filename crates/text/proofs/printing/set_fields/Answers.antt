@@ -1,11 +1,11 @@
--- `text::set_fields` meets its contract: the members among the factors passed are there. Assumes nothing.
+-- `text::printing::set_fields` meets its contract: the members among the factors passed are there. Assumes nothing.
 use mathlib.Core.Path.{◌≡◌, ◌∙◌}
 use native.Mathlib.Omega.{arith}
 use Rattle.writer.proofs.Writing.{then-put}
 use Rattle.text.specs.Output.{set_fields}
 use Rattle.text.proofs.Members.{members-start, listed, unlisted}
-use Rattle.text.proofs.set_fields.Goals as goal
-use Rattle.text.proofs.set_fields.Goals.{then-set-a-eq1, else-set-a-eq1}
+use Rattle.text.proofs.printing.set_fields.Goals as goal
+use Rattle.text.proofs.printing.set_fields.Goals.{then-set-a-eq1, else-set-a-eq1}
 
 pub loop-a-init : goal.loop-a-init
 loop-a-init c = members-start _ _

@@ -1,10 +1,10 @@
--- `text::range_fields` meets its contract. Assumes nothing.
+-- `text::printing::range_fields` meets its contract. Assumes nothing.
 use borrow.Author.Rules.{rules}
 use mir.Facts.{to_z-of_z}
 use mir.Syntax.{w64}
 use Rattle.writer.proofs.Writing.{then, then-put}
 use Rattle.text.specs.Output.{range_fields}
-use Rattle.text.proofs.range_fields.Goals as goal
+use Rattle.text.proofs.printing.range_fields.Goals as goal
 
 pub returns : goal.returns
 unfolding range_fields

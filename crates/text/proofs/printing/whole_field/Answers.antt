@@ -1,4 +1,4 @@
--- `text::whole_field` meets its contract. Assumes nothing.
+-- `text::printing::whole_field` meets its contract. Assumes nothing.
 use mathlib.Core.Path.{ap, ◌∙◌}
 use borrow.Author.Rules.{rules}
 use mir.Facts.{to_z-of_z}
@@ -6,7 +6,7 @@ use mir.Syntax.{w64}
 use Rattle.writer.specs.Lent.{put_text}
 use Rattle.writer.proofs.Writing.{put_then}
 use Rattle.text.proofs.Writing.{whole-field}
-use Rattle.text.proofs.whole_field.Goals as goal
+use Rattle.text.proofs.printing.whole_field.Goals as goal
 
 pub returns : goal.returns
 returns c =

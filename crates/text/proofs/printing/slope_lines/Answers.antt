@@ -1,4 +1,4 @@
--- `text::slope_lines` meets its contract: the lines of the factors passed are there. Assumes nothing.
+-- `text::printing::slope_lines` meets its contract: the lines of the factors passed are there. Assumes nothing.
 use mathlib.Core.Path.{◌≡◌, ap, ◌∙◌}
 use native.Mathlib.Omega.{arith}
 use Rattle.std.specs.Option.{unwrap_or}
@@ -6,7 +6,7 @@ use Rattle.range.specs.Limit.{zero_range}
 use Rattle.range.specs.Sums.{at}
 use Rattle.writer.proofs.Writing.{then}
 use Rattle.text.proofs.Members.{slopes-start, slope-next}
-use Rattle.text.proofs.slope_lines.Goals as goal
+use Rattle.text.proofs.printing.slope_lines.Goals as goal
 
 pub loop-a-init : goal.loop-a-init
 loop-a-init c = slopes-start _ _
