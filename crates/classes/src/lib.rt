@@ -169,12 +169,20 @@ impl Classes {
         Ok(())
     }
 
-    // The limits over the ranges, or the refusal.
-    #[tactic(auto, unfolding(crate::specs::Calls::class_rated))]
+    // The limits over the ranges, or the refusal. The engine is rated where it lies, in a branch for each class: lent by `engine`, it would be copied for each
+    // rating, which a short codelist notices.
+    #[tactic(auto, unfolding(crate::specs::Calls::class_rated, crate::specs::Classes::is_class, crate::specs::Classes::engine_at))]
     pub fn rate(self, class: u64, ranges: &[i64]) -> Result<Limits, Refusal>
         ensures { rating_in_full result ≡ class_rated self class ranges.now }
     {
-        Ok(self.engine(class)?.rate(ranges)?)
+        let rated = match class {
+            1 => self.first.rate(ranges),
+            2 => self.second.rate(ranges),
+            3 => self.third.rate(ranges),
+            4 => self.fourth.rate(ranges),
+            _ => return Err(Refusal::Class),
+        };
+        Ok(rated?)
     }
 
     // The same, cut to a depth.
