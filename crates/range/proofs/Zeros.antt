@@ -1,13 +1,15 @@
 -- Ranges of 0 alone: the test that code makes of the ends' bits, and that the products are 0 and the largest square adds nothing. Assumes nothing.
-use mathlib.Core.Path.{◌≡◌, refl, sym, ap, ap₂}
+use mathlib.Core.Path.{◌≡◌, refl, sym, ap, ap₂, ◌∙◌}
 use mathlib.Core.Bool.{Bool, true, false, ◌||◌}
 use Prim.Native.Nat.{zero, suc}
 use borrow.Author.Rules.{rules}
 use native.Mathlib.Nat.{add-zero}
 use native.Mathlib.Omega.{arith}
-use borrow.Author.Tests.{eqb-true}
+use borrow.Author.Tests.{eqb-true, ne_eqb}
 use lib.Dec.{eqb}
 use lib.IntN.{ℤ, pos, negsuc, nat_abs, ◌*ℤ◌, zero-*ℤ, *ℤ-zero}
+use mir.Syntax.{w64}
+use mir.Val.{SFits, of_z}
 use Rattle.exact.proofs.Div.{floor_div, ceil_div}
 use Rattle.range.specs.declared.Range.{Range}
 use Rattle.range.specs.declared.sums.Squares.{Squares}
@@ -20,6 +22,11 @@ use Rattle.range.proofs.Fitting.{and_first, and_second}
 use Rattle.std.specs.Ordering.{int_eq}
 
 -- ---- the test: a number's bits are 0 where it is
+-- the bits are 0 where the magnitude is
+pub zero_bits : (z : ℤ) → SFits w64 z → eqb (of_z w64 z) 0 ≡ eqb (nat_abs z) 0
+zero_bits (pos n) f = refl
+zero_bits (negsuc n) f = ne_eqb (of_z w64 (negsuc n)) 0 (λ e. omega (arith, f.sfits)) ∙ sym (ne_eqb (suc n) 0 (λ e. omega arith))
+
 -- a comparison with 0 is one of the magnitude
 pub zero_eq : (z : ℤ) → int_eq z (pos 0) ≡ eqb (nat_abs z) 0
 zero_eq (pos zero) = refl
