@@ -9,15 +9,16 @@ use native.Mathlib.Numerals.{add-one, sub-one}
 use native.Mathlib.Omega.{arith}
 use lib.Dec.{lit≤, leb}
 use lib.IntN.{ℤ}
-use lib.ListN.{length, get_or, drop}
+use lib.ListN.{length, get_or, drop, length-drop, drop_of_length-le}
+use lib.Seq.{drop-cons}
 use lib.Signed.{mag}
 use mir.Facts.{to_z-of_z}
 use Rattle.std.proofs.lemmas.Bool.Decides.{nat_tests}
 use mir.Syntax.{w64}
 use mir.Val.{to_z, of_z}
-use borrow.Author.Tests.{lt-ltb, leb-true}
+use borrow.Author.Tests.{lt-ltb, ne_eqb, eq-eqb, leb-true}
 use Rattle.codelist.specs.declared.Numeral.{Numeral}
-use Rattle.codelist.specs.Read.{peek, rest, digit, digits, good, bad}
+use Rattle.codelist.specs.Read.{peek, rest, digit, digits, literal, good, bad}
 use Rattle.codelist.specs.Read.{Read}
 use Rattle.codelist.specs.Views.{next_digit}
 use Rattle.codelist.specs.Conditions.{is_between}
@@ -55,6 +56,10 @@ rest-suc (b ∷ s) (suc i) = rest-suc s i
 pub rest-drop : (s : List ℕ) (i : ℕ) → rest (drop i s) ≡ drop (i + 1) s
 rest-drop s i = rw add-one (rest-suc s i)
 
+-- what is left at a place tells the place
+pub place-left : (s : List ℕ) (at : ℕ) → at ≤ length s → length s - length (drop at s) ≡ at
+place-left s at h = omega (arith, length-drop at s)
+
 -- where a digit stands, the place is in the text
 pub digit-inside : (s : List ℕ) (i d : ℕ) → d ≡ digit (peek (drop i s)) → d < 10 → i < length s
 unfolding digit
@@ -63,6 +68,16 @@ digit-inside s i d e h =
       | yes g ↦ g
       | no g ↦ absurd (let o : digit (peek (drop i s)) ≡ 10 = rw (peek-out s i (omega arith)) in omega arith)
     ]
+
+-- One step of `digits`, as a loop by places takes it
+module _ (s : List ℕ) (at k m d : ℕ) (negative : Bool) (e : d ≡ digit (peek (drop at s))) where
+  pub digits_more : 0 < k → d < 10 → digits (k - 1) negative (m * 10 + d) (drop (at + 1) s) ≡ digits k negative m (drop at s)
+  unfolding digits
+  digits_more p h = go k p
+    where
+      go : (j : ℕ) → 0 < j → digits (j - 1) negative (m * 10 + d) (drop (at + 1) s) ≡ digits j negative m (drop at s)
+      go zero q = absurd (omega arith)
+      go (suc j) q = simp (sub-one, ← e, lt-ltb d 10 h, rest-drop)
 
 -- k digits more keep the value below 10 ^ 10
 abbrev pub Roomy : ℕ → ℕ → Type 0
@@ -90,6 +105,20 @@ pub digits-none : (s : List ℕ) (k m : ℕ) (negative : Bool) → k ≤ 0 → g
 unfolding digits
 digits-none s zero m negative h = refl
 digits-none s (suc k) m negative h = absurd (omega arith)
+
+-- One step of `literal`, as a loop by places takes it
+pub literal-none : (s w : List ℕ) (i : ℕ) → length w ≤ i → good tt s ≡ literal (drop i w) s
+unfolding literal
+literal-none s w i h = rw (drop_of_length-le w h)
+
+module _ (s w : List ℕ) (at i b c : ℕ) (h : i < length w) (p : b ≡ peek (drop at s)) (q : c ≡ get_or w i 0) where
+  pub literal-stop : (b ≡ c → ⊥) → bad ≡ literal (drop i w) (drop at s)
+  unfolding literal
+  literal-stop n = rw (drop-cons w i 0 h, ← p, ← q, ne_eqb b c n)
+
+  pub literal-more : b ≡ c → literal (drop (i + 1) w) (drop (at + 1) s) ≡ literal (drop i w) (drop at s)
+  unfolding literal
+  literal-more e = rw (drop-cons w i 0 h, ← p, ← q, eq-eqb b c e, add-one i, ← rest-drop)
 
 -- An i64 holds the value of a numeral of the form
 pub saturated-few : (w : Numeral) → w.magnitude < 10 ^ 10 → saturated w ≡ value_of w
