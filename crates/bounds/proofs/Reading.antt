@@ -29,7 +29,7 @@ none-ratable : ratable empty ≡ false
 unfolding ratable empty
 none-ratable = refl
 
-none-rated : (xs : List ℤ) → refused NoCodelist ≡ rate_of empty xs
+pub none-rated : (xs : List ℤ) → refused NoCodelist ≡ rate_of empty xs
 none-rated xs = no-codelist empty xs none-ratable
 
 -- bytes without a head hold none
