@@ -12,10 +12,10 @@ use Rattle.codelist.specs.Write.{plain, numeral_of}
 use Rattle.writer.specs.Texts.{natural_text, whole_text}
 use Rattle.writer.proofs.Digits.{decimal-few}
 
-not-below : {A : Type 0} (n : ℕ) → lt_z (pos n) (pos 0) ≡ true → A
+pub not-below : {A : Type 0} (n : ℕ) → lt_z (pos n) (pos 0) ≡ true → A
 not-below n h = absurd (omega (arith, ltb-true n 0 h))
 
-not-above : {A : Type 0} (n : ℕ) → lt_z (negsuc n) (pos 0) ≡ false → A
+pub not-above : {A : Type 0} (n : ℕ) → lt_z (negsuc n) (pos 0) ≡ false → A
 not-above n h = absurd (true≢false h)
 
 pub below-text : (x : ℤ) → lt_z x (pos 0) ≡ true → 45 ∷ decimal 19 (nat_abs x) ≡ whole_text x
