@@ -88,6 +88,10 @@ module _ (k : ℕ) (s : Sum) (few : (k < 1000) × Held k s) where
     pub high_fits : SFits w64 (s.report.high +ℤ v.high)
     high_fits = fits-abs (s.report.high +ℤ v.high) (omega (arith, add-abs s.report.high v.high, few.0, few.1.high, high-within v valid))
 
+    -- the greatest high end, which may be the new one
+    pub top-fits : (t : Bool) → SFits w64 (cond t v.high s.top)
+    top-fits t = fits-abs (cond t v.high s.top) (omega (arith, either t v.high s.top (high-within v valid) few.1.top))
+
     -- as they are added and passed on
     pub low-added : to_z w64 (of_z w64 (to_z w64 (of_z w64 s.report.low) +ℤ to_z w64 (of_z w64 v.low))) ≡ s.report.low +ℤ v.low
     low-added = rw (low-back, low_read v valid) (to_z-of_z low_fits)

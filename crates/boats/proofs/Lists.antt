@@ -67,3 +67,8 @@ doubling-next b ends a {x} e h f d =
       same = rw (two, next) (stored-two ends (2 * a) x x (omega (arith, d.whole, h)))
           ∙ ap (λ (m : List ℤ). m ++ (x ∷ x ∷ [])) d.same ∙ sym (ap doubled more ∙ doubled-last (take a b) x);
     }
+
+-- all eight are there
+pub doubling-end : (b ends : List ℤ) (a : ℕ) → length b ≡ 8 → 8 ≤ a → Doubling b ends a → ends ≡ doubled b
+doubling-end b ends a e h d =
+    sym (take_all (2 * a) ends (omega (arith, d.whole, h))) ∙ d.same ∙ ap doubled (take_all a b (omega (arith, e, h)))

@@ -4,24 +4,25 @@ use mathlib.Core.Bool.{Bool, true, false}
 use mathlib.Core.List.{List, [], ◌∷◌, map}
 use mathlib.Core.Logic.{◌⊎◌, inl, inr}
 use Rattle.std.proofs.Math.Bool.{and-true, and-false}
-use Prim.Native.Nat.{ℕ, zero, suc, ◌*◌, ◌/◌, ◌%◌, ◌≤◌, ◌<◌}
+use Prim.Native.Nat.{ℕ, zero, suc, ◌+◌, ◌*◌, ◌/◌, ◌%◌, ◌≤◌, ◌<◌}
 use native.Mathlib.Omega.{arith}
 use native.Mathlib.Nat.{div-add-mod'}
 use borrow.Author.Tests.{leb-true, leb-false, le-leb, lt-leb, eq-eqb, ne_eqb}
 use lib.Dec.{leb}
 use lib.IntN.{ℤ, +ℤ_idl}
-use lib.ListN.{length, take, drop, length-drop}
-use lib.Seq.{length-take-le}
+use lib.ListN.{length, get_or, take, drop, length-map, length-drop}
+use lib.Seq.{drop-drop, length-take-le}
 use Rattle.codelist.specs.Codelist.{ratable}
 use Rattle.engine.specs.declared.Engine.{Engine}
 use Rattle.boats.specs.Boats.{first_records, records, boat_rating, ratings_of}
+use Rattle.boats.specs.declared.Boat.{Boat}
 use Rattle.boats.specs.declared.Report.{Report}
 use Rattle.boats.specs.declared.totals.Sum.{Sum}
 use Rattle.boats.specs.declared.Refusal.TheVariants.{NoCodelist, Boats}
 use Rattle.boats.specs.Report.{figures_of, report_of}
 use Rattle.boats.specs.Fleet.{reported, refused, fleet_of, fleet_of_numbers}
 use Rattle.boats.specs.Promises.{Eights}
-use Rattle.boats.specs.Walk.{start, walked}
+use Rattle.boats.specs.Walk.{boat_of, no_boat, start, walked}
 use Rattle.std.specs.Simd.{first_chunks}
 use Rattle.std.proofs.lemmas.List.{map-id}
 use Rattle.boats.proofs.Tally.{tallied, walked-tallied, tally}
@@ -60,6 +61,29 @@ eight-first (suc m) xs h = (length-take-le 8 xs (omega (arith, h)), eight-first 
 
 pub all-eight : (xs : List ℤ) → Eights (records xs)
 all-eight xs = eight-first (length xs / 8) xs (omega (arith, div-add-mod' (length xs) 8))
+
+-- the boats of the records: how many there are, and the one at k
+abbrev pub boats_of : List ℤ → List Boat
+boats_of xs = map boat_of (records xs)
+
+pub length-boats : (xs : List ℤ) → length (boats_of xs) ≡ length xs / 8
+length-boats xs = length-map (records xs) boat_of ∙ length-records (length xs / 8) xs
+
+record-at : (m k : ℕ) (xs : List ℤ) → k < m → get_or (map boat_of (first_records m xs)) k no_boat ≡ boat_of (take 8 (drop (8 * k) xs))
+unfolding first_records
+record-at zero k xs h = absurd (omega (arith, h))
+record-at (suc m) zero xs h = refl
+record-at (suc m) (suc k) xs h =
+    let e : 8 + 8 * k ≡ 8 * suc k = omega arith in
+    record-at m k (drop 8 xs) (omega (arith, h)) ∙ ap (λ (ys : List ℤ). boat_of (take 8 ys)) (drop-drop (8 * k) 8 xs ∙ ap (λ (j : ℕ). drop j xs) e)
+
+module _ (xs : List ℤ) where
+  pub record_is : (k : ℕ) {t : ℕ} → k < t → t ≤ length (boats_of xs) → get_or (boats_of xs) k no_boat ≡ boat_of (take 8 (drop (8 * k) xs))
+  record_is k h l = record-at (length xs / 8) k xs (omega (arith, h, l, length-boats xs))
+
+  -- its numbers are there
+  pub room : {k t : ℕ} → k < t → t ≤ length (boats_of xs) → 8 * k + 8 ≤ length xs
+  room h l = omega (arith, h, l, length-boats xs, div-add-mod' (length xs) 8)
 
 -- the records are what the numbers are cut into
 pub records-cut : (m : ℕ) (xs : List ℤ) → first_chunks 8 m xs ≡ first_records m xs
