@@ -5,8 +5,8 @@ use mathlib.Core.List.{List, [], ◌∷◌}
 use Prim.Native.Nat.{ℕ, suc, ◌+◌, ◌*◌, ◌≤◌, ◌<◌}
 use native.Mathlib.Omega.{arith}
 use lib.IntN.{ℤ, pos}
-use lib.ListN.{length, take, drop, length-take, drop_of_length-le}
-use lib.Seq.{drop-cons, get_or-take}
+use lib.ListN.{length, take, drop, set, get_or, length-take, drop_of_length-le}
+use lib.Seq.{drop-cons, get_or-take, take-suc, take-suc-set}
 use lib.Signed.{lt_z}
 use mir.Syntax.{w64}
 use mir.Val.{to_z, of_z}
@@ -15,12 +15,12 @@ use Rattle.range.specs.declared.Range.{Range}
 use Rattle.range.specs.Limit.{from_to, zero_range, is_valid}
 use Rattle.range.specs.Sums.{at, pair_at}
 use Rattle.range.proofs.Valid.{T_true}
-use Rattle.rules.specs.Rate.{rate_ranges, rate_of}
-use Rattle.bounds.proofs.Ranges.{pairs-at, pairs-count}
+use Rattle.rules.specs.Rate.{first_bad, rate_ranges, rate_of}
+use Rattle.bounds.proofs.Ranges.{pairs-at, pairs-count, bad-here, bad-next}
 use Rattle.bisection.specs.Cut.{width_of, widest_from, widest}
 use Rattle.bisection.specs.Box.{box_of, Sized, Boxed, BoxOf}
 use Rattle.bisection.proofs.Cutting.{width_read}
-use Rattle.bisection.proofs.Plain.{rated-plainly}
+use Rattle.bisection.proofs.Plain.{Ready, rated-plainly}
 
 -- ---- the search for the widest
 module _ (rs : List Range) where
@@ -75,5 +75,24 @@ module _ {n : ℕ} {ends : List ℤ} (b : Boxed n ends) {r : Range} {a : ℕ} (l
 
 -- ---- those of a codelist
 module _ {c : Codelist} {n : ℕ} {ends : List ℤ} (b : BoxOf c n ends) where
+  -- they are ready to be rated
+  pub box-ready : Ready c (box_of n ends)
+  box-ready = record { codelist = b.codelist; count = box-length b.boxed.size ∙ b.count; valid = b.boxed.valid }
+
   pub box-plain : rate_of c (take (2 * n) ends) ≡ rate_ranges c (box_of n ends) 0
   box-plain = rated-plainly (take (2 * n) ends) b.codelist (taken b.boxed.size ∙ ap (λ k. 2 * k) b.count) b.boxed.valid
+
+-- ---- the search for the lowest bad range: it ends at one that is bad, and goes on behind one that is good
+module _ {n : ℕ} {ends : List ℤ} (s : Sized n ends) {a : ℕ} (l : a < n) {r : Range} (e : r ≡ pair_at ends (2 * a)) where
+  pub bad-one : is_valid r ≡ false → first_bad (a + 1) (drop a (box_of n ends)) ≡ a + 1
+  bad-one f = bad-here (box_of n ends) a (omega (arith, box-length s)) (sym (ap is_valid (e ∙ box-at s a l)) ∙ f)
+
+  pub good-one : is_valid r ≡ true → first_bad (a + 1) (drop a (box_of n ends)) ≡ first_bad (a + 1 + 1) (drop (a + 1) (box_of n ends))
+  good-one f = bad-next (box_of n ends) a (omega (arith, box-length s)) (sym (ap is_valid (e ∙ box-at s a l)) ∙ f)
+
+-- ---- numbers copied one by one: one more
+pub taken_more : (out xs : List ℤ) (i : ℕ) {v : ℤ} → i < length out → i < length xs → take i out ≡ take i xs → v ≡ get_or xs i (pos 0)
+    → take (i + 1) (set out i v) ≡ take (i + 1) xs
+taken_more out xs i {v} l k e f =
+    let n : i + 1 ≡ suc i = omega arith in
+    rw n (take-suc-set out i v l ∙ rw (e, f) (sym (take-suc xs i (pos 0) k)))

@@ -1,10 +1,12 @@
 -- What holds of the limits of the parts, hulled: `parts-fine`, by induction over the depth. Assumes nothing.
 use mathlib.Core.Path.{◌≡◌, refl, sym, ap, ap₂, subst, ◌∙◌}
-use mathlib.Core.Bool.{Bool, true, false, cond}
+use mathlib.Core.Bool.{Bool, true, false, cond, ◌||◌}
 use mathlib.Core.List.{List}
 use mathlib.Core.Logic.{◌⊎◌, inl, inr}
 use Prim.Native.Nat.{ℕ, zero, suc, ◌-◌, ◌≤◌}
 use native.Mathlib.Omega.{arith}
+use borrow.Author.Tests.{eqb-false}
+use lib.Dec.{eqb}
 use lib.IntN.{ℤ}
 use Rattle.codelist.specs.declared.Codelist.{Codelist}
 use Rattle.range.specs.declared.Range.{Range}
@@ -39,9 +41,9 @@ zero_parts zero c rs z = refl
 zero_parts (suc d) c rs z = absurd (omega (arith, z))
 
 module _ (d : ℕ) (c : Codelist) (rs : List Range) (deep : ¬ (d ≡ 0)) (wide : narrow rs ≡ false) where
-  cut_parts : parts d c rs ≡ hulled (parts (d - 1) c (lower_part rs)) (parts (d - 1) c (upper_part rs))
+  halved-parts : parts d c rs ≡ hulled (parts (d - 1) c (lower_part rs)) (parts (d - 1) c (upper_part rs))
   unfolding parts
-  cut_parts = go d deep
+  halved-parts = go d deep
     where
       go : (d : ℕ) → ¬ (d ≡ 0) → parts d c rs ≡ hulled (parts (d - 1) c (lower_part rs)) (parts (d - 1) c (upper_part rs))
       go zero z = absurd (z refl)
@@ -49,14 +51,24 @@ module _ (d : ℕ) (c : Codelist) (rs : List Range) (deep : ¬ (d ≡ 0)) (wide 
 
   -- as the code goes on: a refusal of the lower half, else one of the upper half, else the hull
   pub lower_refused : {r : Refusal} → refused r ≡ parts (d - 1) c (lower_part rs) → refused r ≡ parts d c rs
-  lower_refused p = ap (λ (x : Rating). hulled x (parts (d - 1) c (upper_part rs))) p ∙ sym cut_parts
+  lower_refused p = ap (λ (x : Rating). hulled x (parts (d - 1) c (upper_part rs))) p ∙ sym halved-parts
 
   module _ {l : Limits} (p : rated l ≡ parts (d - 1) c (lower_part rs)) where
     pub upper_refused : {r : Refusal} → refused r ≡ parts (d - 1) c (upper_part rs) → refused r ≡ parts d c rs
-    upper_refused q = ap₂ hulled p q ∙ sym cut_parts
+    upper_refused q = ap₂ hulled p q ∙ sym halved-parts
 
     pub both_rated : {m : Limits} → rated m ≡ parts (d - 1) c (upper_part rs) → rated (hull_limits l m) ≡ parts d c rs
-    both_rated q = ap₂ hulled p q ∙ sym cut_parts
+    both_rated q = ap₂ hulled p q ∙ sym halved-parts
+
+-- a test of two that fails, fails of both
+pub neither : (a b : Bool) → (a || b) ≡ false → (a ≡ false) × (b ≡ false)
+neither true b e = (e, absurd (let z : ◌≡◌ {A = ℕ} 0 1 = cc in omega arith))
+neither false b e = (refl, e)
+
+-- by one test: neither depth 0 nor a widest range that is narrow
+pub cut_parts : (d : ℕ) (c : Codelist) (rs : List Range) → (eqb d 0 || narrow rs) ≡ false
+    → parts d c rs ≡ hulled (parts (d - 1) c (lower_part rs)) (parts (d - 1) c (upper_part rs))
+cut_parts d c rs w = let n = neither (eqb d 0) (narrow rs) w in halved-parts d c rs (eqb-false d 0 n.0) n.1
 
 -- ---- which hulls are limits
 pub record Both (x y : Rating) (l : Limits) : Type 0 where
