@@ -1,12 +1,13 @@
 -- The parts of the answer: what the calls of the code gave, put together. Assumes nothing.
-use Prim.Native.Nat.{ℕ, ◌≤◌, ◌<◌}
+use Prim.Native.Nat.{ℕ, ◌+◌, ◌-◌, ◌≤◌, ◌<◌}
 use mathlib.Core.Bool.{Bool, true, false}
 use mathlib.Core.List.{List, []}
 use mathlib.Core.Option.{Option, none, some}
 use mathlib.Core.Path.{◌≡◌, refl, sym, ap, ◌∙◌}
 use native.Mathlib.Omega.{arith}
 use lib.IntN.{ℤ}
-use lib.ListN.{length}
+use lib.ListN.{length, take, drop, length-drop}
+use lib.Seq.{take_all}
 use borrow.Author.Tests.{le-leb, lt-leb}
 use Rattle.std.specs.Prelude.{Some, None, Ok, Err}
 use Rattle.std.specs.Bool.{then_some}
@@ -17,11 +18,11 @@ use Rattle.rules.specs.declared.Limits.{Limits}
 use Rattle.rules.specs.declared.Refusal.TheVariants.{RangeCount}
 use Rattle.rules.proofs.Passing.{refuted-iff}
 use Rattle.engine.specs.declared.Engine.{Engine}
-use Rattle.engine.specs.InFull.{Loading}
+use Rattle.engine.specs.InFull.{Loading, Accepted}
 use Rattle.engine.specs.declared.Refusal as engine
 use Rattle.engine.specs.Engine.{empty_engine, loaded_of, loading_in_full}
 use Rattle.engine.proofs.Demands.{demands}
-use Rattle.text.specs.Input.{box, sheet_of, after_line, box_lines}
+use Rattle.text.specs.Input.{box, sheet_length, sheet_of, after_line, box_lines}
 use Rattle.text.specs.Output as text
 use Rattle.bisection.specs.InFull.{Outcome}
 use Rattle.bisection.specs.declared.Refusal.{Refusal}
@@ -30,13 +31,34 @@ use Rattle.bisection.specs.Cut.{is_depth, cut_of, in_full}
 use Rattle.bisection.specs.Promises.{IsDepth}
 use Rattle.bisection.proofs.Tested.{depth-iff}
 use Rattle.bisection.proofs.CutSound.{cut-sound}
-use Rattle.cut_text.specs.Input.{depth_in, after_first}
+use Rattle.cut_text.specs.Input.{depth_in, first_length, after_first}
 use Rattle.cut_text.specs.Output.{refusal_text, unless_refused, bisected_text}
-use Rattle.cut_text.specs.Answer.{cut_text, loading_text, answer_of}
+use Rattle.cut_text.specs.Answer.{cut_text, loading_text, rest_text, answer_of}
 
 pub too_long : (s : List ℕ) → 8192 < length s → text.refusal_text (engine.TheVariants.Load TooLong) ≡ answer_of s
 unfolding answer_of
 too_long s h = simp (lt-leb (length s) 8192 h)
+
+-- with the depth and the first line's length that were read; what follows the line, as it is handed on
+module _ (s : List ℕ) where
+  pub in-length : length s ≤ 8192 → {d : ℤ} {n : ℕ} → d ≡ depth_in s → n ≡ first_length s → rest_text d (take (length s - n) (drop n s)) ≡ answer_of s
+  unfolding answer_of after_first
+  in-length h {d} {n} p q = rw (take_all (length s - n) (drop n s) (omega (arith, length-drop n s)), le-leb (length s) 8192 h, p, q)
+
+-- What is known of the text s after the first line: where its sheet ends, an empty engine, and the loading of what stands before that end
+module _
+    (d : ℤ) (s : List ℕ) (end : ℕ) (p : end ≡ sheet_length box true s) (o : Engine) (n : o ≡ empty_engine)
+    (l : Loading) (e : l ≡ loaded_of o (take end s)) where
+  rested : rest_text d s ≡ loading_text l d (drop (end + 4) s)
+  unfolding sheet_of after_line
+  rested =
+      let f : end + 3 + 1 ≡ end + 4 = omega arith in
+      simp (← p, ← n, ← e, f)
+
+  -- a sheet that is loaded is cut
+  pub loaded : (xs : Option (List ℤ)) → l.outcome ≡ Accepted → xs ≡ box_lines 8 [] (drop (end + 4) s)
+      → cut_text l.engine d xs ≡ rest_text d s
+  loaded xs a b = rw (rested, a, b)
 
 -- 16, of every codelist that can be rated
 pub no-depth : (e : Engine) (d : ℤ) (b : Option (List ℤ)) → Ratable e.codelist → ¬ (IsDepth d) → cut_text e d b ≡ refusal_text Depth
@@ -70,21 +92,21 @@ module _ (s : List ℕ) (h : length s ≤ 8192) (e : Engine) where
   not-loaded r l = sym (answered ∙ rw (← l))
 
   module _ (l : loading_in_full (Ok tt) e ≡ loaded_of empty_engine sheet) where
-    loaded : cut_text e (depth_in s) boxes ≡ answer_of s
-    loaded = sym (answered ∙ rw (← l))
+    loaded-answer : cut_text e (depth_in s) boxes ≡ answer_of s
+    loaded-answer = sym (answered ∙ rw (← l))
 
     pub too-deep : is_depth (depth_in s) ≡ false → refusal_text Depth ≡ answer_of s
     too-deep d =
         let w : Ratable e.codelist = rw (ap (λ (x : Loading). x.engine.codelist) l)
         (well-formed-ratable (demands.loaded-written empty_engine sheet (ap (λ (x : Loading). x.outcome) (sym l))).0) in
-        sym (no-depth e (depth_in s) boxes w ((refuted-iff true (depth-iff (depth_in s))).0 d)) ∙ loaded
+        sym (no-depth e (depth_in s) boxes w ((refuted-iff true (depth-iff (depth_in s))).0 d)) ∙ loaded-answer
 
     pub not-read : is_depth (depth_in s) ≡ true → none ≡ boxes → refusal_text (Rate RangeCount) ≡ answer_of s
-    not-read d b = ap refusal_text (rw d) ∙ ap (cut_text e (depth_in s)) b ∙ loaded
+    not-read d b = ap refusal_text (rw d) ∙ ap (cut_text e (depth_in s)) b ∙ loaded-answer
 
     module _ (xs : List ℤ) (b : some xs ≡ boxes) where
       of_boxes : bisected_text e.codelist.factors (cut_of e xs (depth_in s)) ≡ answer_of s
-      of_boxes = ap (cut_text e (depth_in s)) b ∙ loaded
+      of_boxes = ap (cut_text e (depth_in s)) b ∙ loaded-answer
 
       pub not-cut : (r : Refusal) → in_full (Err r) ≡ cut_of e xs (depth_in s) → refusal_text r ≡ answer_of s
       not-cut r x = ap (bisected_text e.codelist.factors) x ∙ of_boxes

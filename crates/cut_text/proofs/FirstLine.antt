@@ -1,18 +1,49 @@
--- The first line: its word, and what follows it. Assumes nothing.
-use Prim.Native.Nat.{ℕ, suc, ◌+◌, ◌<◌}
+-- The first line: its length, its word and depth, and what follows it. Assumes nothing.
+use Prim.Native.Nat.{ℕ, suc, ◌+◌, ◌≤◌, ◌<◌}
 use mathlib.Core.Bool.{Bool, true, false, cond, not, ◌&&◌}
 use mathlib.Core.List.{List, [], ◌∷◌}
 use mathlib.Core.Path.{◌≡◌, refl, sym}
+use borrow.Author.Rules.{rules}
+use native.Mathlib.Numerals.{add-one}
 use native.Mathlib.Omega.{arith}
-use lib.Dec.{eqb, ltb}
-use lib.ListN.{length, take, drop, drop_of_length-le}
-use borrow.Author.Tests.{ne_eqb, ltb-false}
+use lib.Dec.{eqb, leb, ltb}
+use lib.IntN.{negsuc}
+use lib.ListN.{length, get_or, take, drop, drop_of_length-le}
+use lib.Seq.{drop-cons}
+use borrow.Author.Tests.{eq-eqb, ne_eqb, leb-true, leb-false, ltb-false}
 use Rattle.std.specs.Prelude.{Some, None}
 use Rattle.std.specs.Cmp.Lexicographic.{pointwise}
 use Rattle.std.specs.List as std
 use Rattle.std.specs.List.{position, position_or_len}
-use Rattle.codelist.specs.Read.{good, bad, peek, rest, literal}
-use Rattle.cut_text.specs.Input.{first_length, after_first}
+use Rattle.codelist.specs.declared.Numeral.{Numeral}
+use Rattle.codelist.specs.Load.{value_of}
+use Rattle.codelist.specs.Read.{good, bad, peek, rest, digit, positive, numeral, field, literal}
+use Rattle.cut_text.specs.Input.{depth→, depth_line, depth_in, first_length, after_first}
+
+-- ---- its length, place by place
+module _ (s : List ℕ) (at : ℕ) where
+  module _ (h : at < length s) where
+    pub first-here : get_or s at 0 ≡ 10 → first_length (drop at s) ≡ 1
+    unfolding first_length
+    first-here e = rw (drop-cons s at 0 h, eq-eqb (get_or s at 0) 10 e)
+
+    pub first_next : ¬ (get_or s at 0 ≡ 10) → first_length (drop at s) ≡ suc (first_length (drop (at + 1) s))
+    unfolding first_length
+    first_next n = rw (drop-cons s at 0 h, ne_eqb (get_or s at 0) 10 n, add-one at)
+
+  pub first-none : length s ≤ at → first_length (drop at s) ≡ 0
+  unfolding first_length
+  first-none h = rw (drop_of_length-le s h)
+
+-- the text has as many bytes
+pub first_fits : (s : List ℕ) → first_length s ≤ length s
+unfolding first_length
+first_fits [] = omega arith
+first_fits (b ∷ s) = go (eqb b 10) (first_fits s)
+  where
+    go : (t : Bool) → first_length s ≤ length s → cond t 1 (suc (first_length s)) ≤ suc (length s)
+    go true h = omega arith
+    go false h = omega arith
 
 -- ---- what follows it
 after-first : (s : List ℕ) → after_first s ≡ std.after_first (λ b. eqb b 10) s
@@ -57,3 +88,32 @@ literal-prefix (b ∷ w) (x ∷ s) h = go (eqb x b) (literal-prefix w s h.1)
         → cond t (literal w s) bad ≡ cond (t && pointwise eqb (take (length w) s) w) (good tt (drop (length w) s)) bad
     go true e = e
     go false e = refl
+
+-- ---- its depth
+module _ (s : List ℕ) where
+  -- where a numeral ends the line, there are bytes enough for the word
+  pub word_fits : {d : Numeral} {t : List ℕ} → field 10 (drop 6 s) ≡ good d t → 6 ≤ length s
+  unfolding field numeral positive digit peek
+  word_fits e = go (leb 6 (length s)) refl
+    where
+      go : (b : Bool) → leb 6 (length s) ≡ b → 6 ≤ length s
+      go true l = leb-true 6 (length s) l
+      go false l =
+          let z : drop 6 s ≡ [] = drop_of_length-le s {i = 6} (omega (arith, leb-false 6 (length s) l)) in
+          absurd (let f : ◌≡◌ {A = ℕ} 0 1 = cc (rw z at e) in omega arith)
+
+  -- with a numeral, the depth is its value, or none without the word
+  pub depth-read : (w : Bool) {d : Numeral} {t : List ℕ} → literal depth→ s ≡ cond w (good tt (drop 6 s)) bad → field 10 (drop 6 s) ≡ good d t
+      → depth_in s ≡ cond w (value_of d) (negsuc 0)
+  unfolding depth_in depth_line
+  depth-read true l e = rw (l, e)
+  depth-read false l e = rw l
+
+  -- and none without a numeral
+  pub depth-unread : field 10 (drop 6 s) ≡ bad → depth_in s ≡ negsuc 0
+  unfolding depth_in depth_line
+  depth-unread e = go (pointwise eqb (take 6 s) depth→) (literal-prefix depth→ s (search rules))
+    where
+      go : (w : Bool) → literal depth→ s ≡ cond w (good tt (drop 6 s)) bad → depth_in s ≡ negsuc 0
+      go true l = rw (l, e)
+      go false l = rw l
