@@ -1,20 +1,22 @@
--- Each call by its class number: the engine's call where it is a class's. Assumes nothing.
+-- Each call by its class number: the engine's call where it is a class's, and 21 where it is none. Assumes nothing.
 use Prim.Native.Nat.{ℕ}
-use mathlib.Core.Bool.{true}
+use mathlib.Core.Bool.{true, false, cond}
 use mathlib.Core.List.{List}
 use mathlib.Core.Path.{◌≡◌}
 use lib.IntN.{ℤ}
 use Rattle.engine.specs.Engine.{loaded_of, formula_loaded_of, rated_of}
+use Rattle.boats.specs.InFull.{Counted}
 use Rattle.boats.specs.Fleet.{fleet_of, fleet_of_numbers}
 use Rattle.bisection.specs.Cut.{cut_of}
 use Rattle.increments.specs.Call.{sisters_of}
 use Rattle.margin.specs.Edge.{edge_for}
 use Rattle.classes.specs.declared.Classes.{Classes}
 use Rattle.classes.specs.Classes.{is_class, engine_at}
-use Rattle.classes.specs.Calls.{loading_of, rating_of, cut_rating_of, page_of, difference_of}
-use Rattle.classes.specs.Calls.{edge_answer, class_edge}
+use Rattle.classes.specs.Calls.{loading_of, unknown_loading, rating_of, unknown_rating, cut_rating_of, page_of, unknown_page, difference_of, unknown_difference}
+use Rattle.classes.specs.Calls.{edge_answer, unknown_edge, class_edge}
 use Rattle.classes.specs.Calls.{class_loaded, class_formula, class_rated, class_cut, class_fleet, class_fleet_of_numbers, class_sisters}
 
+-- ---- of a class
 module _ (d : Classes) (k : ℕ) (c : is_class k ≡ true) where
   pub loaded : (s : List ℕ) → class_loaded d k s ≡ loading_of d k (loaded_of (engine_at d k) s)
   unfolding class_loaded
@@ -47,3 +49,37 @@ module _ (d : Classes) (k : ℕ) (c : is_class k ≡ true) where
   pub edge : (xs : List ℤ) (ceiling : ℤ) → class_edge d k xs ceiling ≡ edge_answer (edge_for (engine_at d k) xs ceiling)
   unfolding class_edge
   edge xs ceiling = rw c
+
+-- ---- of another number
+module _ (d : Classes) (k : ℕ) (n : is_class k ≡ false) where
+  pub loaded-nowhere : (s : List ℕ) → class_loaded d k s ≡ unknown_loading d
+  unfolding class_loaded
+  loaded-nowhere s = rw n
+
+  pub formula-nowhere : (s : List ℕ) (m : ℕ) → class_formula d k s m ≡ unknown_loading d
+  unfolding class_formula
+  formula-nowhere s m = rw n
+
+  pub rated-nowhere : (xs : List ℤ) → class_rated d k xs ≡ unknown_rating
+  unfolding class_rated
+  rated-nowhere xs = rw n
+
+  pub cut-nowhere : (xs : List ℤ) (depth : ℤ) → class_cut d k xs depth ≡ unknown_rating
+  unfolding class_cut
+  cut-nowhere xs depth = rw n
+
+  pub sisters-nowhere : (xs bs : List ℤ) → class_sisters d k xs bs ≡ unknown_difference
+  unfolding class_sisters
+  sisters-nowhere xs bs = rw n
+
+  pub edge-nowhere : (xs : List ℤ) (ceiling : ℤ) → class_edge d k xs ceiling ≡ unknown_edge
+  unfolding class_edge
+  edge-nowhere xs ceiling = rw n
+
+-- pages, of which the test comes last
+module _ (k : ℕ) (r : Counted) where
+  pub page : is_class k ≡ true → page_of r ≡ cond (is_class k) (page_of r) unknown_page
+  page c = rw c
+
+  pub page-nowhere : is_class k ≡ false → unknown_page ≡ cond (is_class k) (page_of r) unknown_page
+  page-nowhere n = rw n

@@ -43,6 +43,23 @@ is-class (fourth p) = rw p
 pub no_number : {A : Type 0} {k : ℕ} → is_class k ≡ false → Number k → A
 no_number h n = absurd (true≢false (sym (is-class n) ∙ h))
 
+-- a number that is none of the four is no class
+pub no-class : (k : ℕ) → ¬ (Number k) → is_class k ≡ false
+no-class k h = go (is_class k) refl
+  where
+    go : (b : Bool) → is_class k ≡ b → is_class k ≡ false
+    go true e = absurd (h (which k e))
+    go false e = e
+
+pub none_of : {k : ℕ} → ¬ (k ≡ 1) → ¬ (k ≡ 2) → ¬ (k ≡ 3) → ¬ (k ≡ 4) → is_class k ≡ false
+none_of {k} a b c d = no-class k go
+  where
+    go : ¬ (Number k)
+    go (first p) = a p
+    go (second p) = b p
+    go (third p) = c p
+    go (fourth p) = d p
+
 -- ---- the engine of each
 module _ (d : Classes) {k : ℕ} where
   pub at_first : k ≡ 1 → engine_at d k ≡ d.first
