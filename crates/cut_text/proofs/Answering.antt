@@ -18,7 +18,7 @@ use Rattle.rules.specs.declared.Limits.{Limits}
 use Rattle.rules.specs.declared.Refusal.TheVariants.{RangeCount}
 use Rattle.rules.proofs.Passing.{refuted-iff}
 use Rattle.engine.specs.declared.Engine.{Engine}
-use Rattle.engine.specs.InFull.{Loading, Accepted}
+use Rattle.engine.specs.InFull.{Loading, Accepted, Refused}
 use Rattle.engine.specs.declared.Refusal as engine
 use Rattle.engine.specs.Engine.{empty_engine, loaded_of, loading_in_full}
 use Rattle.engine.proofs.Demands.{demands}
@@ -60,6 +60,10 @@ module _
       → cut_text l.engine d xs ≡ rest_text d s
   loaded xs a b = rw (rested, a, b)
 
+  -- and one that is not gives the loading's refusal
+  pub not-loaded : (r : engine.Refusal) → l.outcome ≡ Refused r → text.refusal_text r ≡ rest_text d s
+  not-loaded r a = rw (rested, a)
+
 -- 16, of every codelist that can be rated
 pub no-depth : (e : Engine) (d : ℤ) (b : Option (List ℤ)) → Ratable e.codelist → ¬ (IsDepth d) → cut_text e d b ≡ refusal_text Depth
 no-depth e d (some xs) w n =
@@ -88,8 +92,9 @@ module _ (s : List ℕ) (h : length s ≤ 8192) (e : Engine) where
   unfolding answer_of
   answered = rw (le-leb (length s) 8192 h)
 
-  pub not-loaded : (r : engine.Refusal) → loading_in_full (Err r) e ≡ loaded_of empty_engine sheet → text.refusal_text r ≡ answer_of s
-  not-loaded r l = sym (answered ∙ rw (← l))
+  pub load-refused : (r : engine.Refusal) → loading_in_full (Err r) e ≡ loaded_of empty_engine sheet → text.refusal_text r ≡ answer_of s
+  unfolding sheet_of
+  load-refused r l = not-loaded (depth_in s) (after_first s) _ refl _ refl _ l r refl ∙ sym answered
 
   module _ (l : loading_in_full (Ok tt) e ≡ loaded_of empty_engine sheet) where
     loaded-answer : cut_text e (depth_in s) boxes ≡ answer_of s

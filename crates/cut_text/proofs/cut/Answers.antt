@@ -7,7 +7,7 @@ use Rattle.text.specs.Boxes.{numbers_of}
 use Rattle.bisection.specs.declared.Refusal.TheVariants.{Depth, Rate}
 use Rattle.cut_text.specs.Output.{refusal_text}
 use Rattle.cut_text.specs.Input.{depth_in}
-use Rattle.cut_text.proofs.Answering.{too_long, depth-none, depth-some, not-loaded, too-deep, not-read, not-cut, cut}
+use Rattle.cut_text.proofs.Answering.{too_long, depth-none, depth-some, load-refused, too-deep, not-read, not-cut, cut}
 use Rattle.cut_text.proofs.cut.Goals as goal
 
 pub returns-then-input-gt-MOST_INPUT : goal.returns-then-input-gt-MOST_INPUT
@@ -17,7 +17,7 @@ pub returns-in_err-load : goal.returns-in_err-load
 returns-in_err-load c =
     let p = err_from_is_err_and c.from_residual.result c.from_residual.ensures.1 in
     rw (p.1, p.2)
-    (not-loaded _ c.if-input-gt-MOST_INPUT.false _ _
+    (load-refused _ c.if-input-gt-MOST_INPUT.false _ _
     (rw (c.new-engine.ensures, c.parted.ensures.sheet, c.after_first.ensures) at c.in_err-load.ensures))
 
 pub returns-in_err-depth : goal.returns-in_err-depth
