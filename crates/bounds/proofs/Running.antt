@@ -18,7 +18,7 @@ use Rattle.codelist.specs.declared.Op.{Op}
 use Rattle.codelist.specs.declared.Op.TheVariants.{Inv}
 use Rattle.codelist.specs.declared.Entry.{Entry}
 use Rattle.codelist.specs.declared.Codelist.{Codelist}
-use Rattle.codelist.specs.Codelist.{blank, Earlier, well_formed_op, well_formed_ops, in_bounds, ratable}
+use Rattle.codelist.specs.Codelist.{Earlier, well_formed_op, well_formed_ops, in_bounds, ratable}
 use Rattle.codelist.proofs.Ratable as W
 use Rattle.rules.specs.declared.Line.{Line}
 use Rattle.rules.specs.declared.Refusal.TheVariants.{Divisor, Overflow}
@@ -215,8 +215,8 @@ module _ {c : Codelist} {rs : List Range} {t : Table} {k : ℕ} (n : Fits c) (p 
       ap (λ (l : Line). rated (limits_of c.factors l)) (sym (ap (λ (n : ℕ). last (lines_up_to t n)) e ∙ up-to-last t (k - 1)))
       ∙ ap (finished c.factors) (sym all ∙ p.todo)
 
--- ---- a turn: an operation is left
-module _ {c : Codelist} {rs : List Range} {t : Table} {k : ℕ} (n : Fits c) (p : Ran c rs t k) (from : c.factors ≤ k) (left : k < c.factors + c.count)
+-- ---- a turn: an operation is left, which is read with any d in place of what would be past the array's end
+module _ {c : Codelist} {rs : List Range} {t : Table} {k : ℕ} (n : Fits c) (p : Ran c rs t k) (from : c.factors ≤ k) (left : k < c.factors + c.count) (d : Entry)
   where
     -- its index, and that of the next one
     room : k - c.factors < c.count
@@ -233,7 +233,7 @@ module _ {c : Codelist} {rs : List Range} {t : Table} {k : ℕ} (n : Fits c) (p 
 
     -- the operation
     abbrev op : Op
-    op = (get_or c.ops (k - c.factors) blank).op
+    op = (get_or c.ops (k - c.factors) d).op
 
     -- 10
     tested : well_formed_op (c.factors + (k - c.factors)) op ≡ well_formed_op k op
@@ -241,18 +241,18 @@ module _ {c : Codelist} {rs : List Range} {t : Table} {k : ℕ} (n : Fits c) (p 
 
     pub ran-no-codelist : well_formed_op k op ≡ false → ratable c ≡ false
     ran-no-codelist f =
-        sym p.untested ∙ W.ops-fail c.factors c.count c.ops (enough n) (k - c.factors) blank room (tested ∙ f)
+        sym p.untested ∙ W.ops-fail c.factors c.count c.ops (enough n) (k - c.factors) d room (tested ∙ f)
 
     passed : well_formed_op k op ≡ true → well_formed_ops (c.factors + (k + 1 - c.factors)) (drop (k + 1 - c.factors) (operations c)) ≡ ratable c
     passed f =
         ap (λ (m : ℕ). well_formed_ops (c.factors + m) (drop m (operations c))) after
-        ∙ W.ops-pass c.factors c.count c.ops (enough n) (k - c.factors) blank room (tested ∙ f)
+        ∙ W.ops-pass c.factors c.count c.ops (enough n) (k - c.factors) d room (tested ∙ f)
         ∙ p.untested
 
-    next : drop (k - c.factors) (operations c) ≡ (get_or c.ops (k - c.factors) blank ∷ drop (k + 1 - c.factors) (operations c))
+    next : drop (k - c.factors) (operations c) ≡ (get_or c.ops (k - c.factors) d ∷ drop (k + 1 - c.factors) (operations c))
     next =
-        drop-cons (operations c) (k - c.factors) blank (omega (arith, room, all-long n))
-        ∙ ap₂ (λ (o : Entry) (n : ℕ). o ∷ drop n (operations c)) (get_or-take c.count c.ops (k - c.factors) blank room)
+        drop-cons (operations c) (k - c.factors) d (omega (arith, room, all-long n))
+        ∙ ap₂ (λ (o : Entry) (n : ℕ). o ∷ drop n (operations c)) (get_or-take c.count c.ops (k - c.factors) d room)
         (sym (after ∙ add-one (k - c.factors)))
 
     abbrev new : Line

@@ -5,6 +5,7 @@ use Rattle.std.specs.Prelude.{Some, None, Err}
 use Prim.Native.Nat.{ℕ, ◌+◌, ◌-◌}
 use native.Mathlib.Omega.{arith}
 use Rattle.codelist.specs.declared.Op.{Op}
+use Rattle.codelist.specs.Codelist.{blank}
 use Rattle.rules.specs.declared.Refusal.TheVariants.{NoCodelist, Overflow}
 use Rattle.rules.specs.Run.{inverts_zero, bent_in}
 use Rattle.rules.specs.Rate.{pairs, rated, limits_of}
@@ -51,7 +52,7 @@ returns-in_err-op g c = λ d q.
     let refused : c.from_residual.result ≡ Err NoCodelist = search rules in
     rw refused
     (L.no-codelist-first d _
-    (R.ran-no-codelist (L.lies-fits q c.requires.counted) (c.loop-k.invariant.ran d q) (L.lies-from q _ is) (L.lies-left q _ is)
+    (R.ran-no-codelist (L.lies-fits q c.requires.counted) (c.loop-k.invariant.ran d q) (L.lies-from q _ is) (L.lies-left q _ is) blank
     (L.lies-none q _ is none c.op_at.ensures)))
 
 pub returns-then-inverts_zero : goal.returns-then-inverts_zero
@@ -63,7 +64,7 @@ returns-then-inverts_zero g c = λ d q.
     let zero = ap (λ (o : Op). inverts_zero o (lines_up_to c.loop-k.t c.loop-k.k)) (sym op.1) ∙ sym c.inverts_zero.ensures ∙ c.if-inverts_zero.true in
     or-no-codelist d xs _
     (λ w.
-    R.ran-divisor (L.lies-fits q c.requires.counted) (c.loop-k.invariant.ran d q) (L.lies-from q _ is) (L.lies-left q _ is) zero
+    R.ran-divisor (L.lies-fits q c.requires.counted) (c.loop-k.invariant.ran d q) (L.lies-from q _ is) (L.lies-left q _ is) blank zero
     ∙ all_lines d xs w (omega (arith, c.if-xs-n.false, q.factors)) _ refl (L.none-is-bad _ (search rules)))
 
 pub returns-in_err-last : goal.returns-in_err-last
@@ -78,7 +79,7 @@ returns-in_err-last g c = λ d q.
     rw refused
     (or-no-codelist d xs _
     (λ w.
-    R.ran-overflow (L.lies-fits q c.requires.counted) (c.loop-k.invariant.ran d q) (L.lies-from q _ is) (L.lies-left q _ is) apart _
+    R.ran-overflow (L.lies-fits q c.requires.counted) (c.loop-k.invariant.ran d q) (L.lies-from q _ is) (L.lies-left q _ is) blank apart _
     (L.worked-as _ op.1 none c.work.ensures)
     ∙ all_lines d xs w (omega (arith, c.if-xs-n.false, q.factors)) _ refl (L.none-is-bad _ (search rules))))
 
@@ -95,7 +96,7 @@ loop-k-preserved g c =
       ran = λ d q.
           let op = L.lies-some q _ is some c.op_at.ensures in
           let apart = ap (λ (o : Op). inverts_zero o (lines_up_to c.loop-k.t c.loop-k.k)) (sym op.1) ∙ sym c.inverts_zero.ensures ∙ c.if-inverts_zero.false in
-          R.ran-more (L.lies-fits q c.requires.counted) (i.ran d q) (L.lies-from q _ is) (L.lies-left q _ is) apart _ _ i.ready op.0
+          R.ran-more (L.lies-fits q c.requires.counted) (i.ran d q) (L.lies-from q _ is) (L.lies-left q _ is) blank apart _ _ i.ready op.0
           (L.worked-as _ op.1 slopes c.work.ensures);
     }
 
