@@ -1,14 +1,14 @@
--- What the program prints: the first line, and the sheet or the refusal in the bytes that hold it.
-use Prim.Native.Nat.{ℕ, ◌≤◌, ◌<◌}
-use mathlib.Core.Bool.{true, false, cond, ◌&&◌}
+-- What the program prints: the first line, what follows it, and the sheet or the refusal in the bytes that hold it.
+use Prim.Native.Nat.{ℕ, ◌+◌, ◌-◌, ◌≤◌, ◌<◌}
+use mathlib.Core.Bool.{true, false, cond, ◌&&◌, true≢false}
 use mathlib.Core.List.{List, [], ◌∷◌}
 use mathlib.Core.Path.{◌≡◌, refl, sym, ap, ◌∙◌}
 use native.Mathlib.Decide.{dec_lt}
 use native.Mathlib.Omega.{arith}
-use lib.Dec.{eqb}
-use lib.ListN.{length, take, drop}
+use lib.Dec.{eqb, leb}
+use lib.ListN.{length, take, drop, get_or, length-drop, drop_of_length-le}
 use lib.Pointwise.{pointwise}
-use lib.Seq.{drop-append_seam}
+use lib.Seq.{get_or-drop, drop-append_seam}
 use borrow.Author.Tests.{lt-leb, ne_eqb}
 use Rattle.codelist.specs.InFull as loading
 use Rattle.codelist.specs.declared.Codelist.{Codelist}
@@ -22,7 +22,7 @@ use Rattle.codelist.proofs.LineTexts.{literal-sound}
 use Rattle.std.specs.declared.result.Result.TheVariants.{Ok}
 use Rattle.writer.specs.Lent.{Lent}
 use Rattle.writer.specs.Texts.{refused_text}
-use Rattle.formulas.specs.Answer.{count_line, sheet_printed, printed, in_bytes}
+use Rattle.formulas.specs.Answer.{count_line, sheet_printed, printed, is_ended, text_in, after_first, in_bytes}
 use Rattle.formulas.specs.Load.{sheet_for}
 use Rattle.formulas.specs.Views.{Drafts}
 use Rattle.formulas.proofs.Sheets.{drafted-sheet, front, cut-loads}
@@ -57,6 +57,41 @@ module _ (s : List ℕ) where
       go : (r : Read Unit) → is_good r ≡ false → bad ≡ next r (λ _ t. field 10 t)
       go (good x t) g = absurd (let y : ◌≡◌ {A = ℕ} 0 1 = cc in omega arith)
       go bad g = refl
+
+-- ════ what follows it ════
+
+-- what stands from a place on, by its last byte and its length
+module _ (s : List ℕ) (from : ℕ) where
+  -- nothing stands past the end
+  pub past_end : length s ≤ from → is_ended (drop from s) ≡ false
+  past_end h = rw (drop_of_length-le s h)
+
+  -- what ends with byte 10 begins in the text
+  pub ended-inside : is_ended (drop from s) ≡ true → from < length s
+  ended-inside e = go (dec_lt from (length s))
+    where
+      go : Dec (from < length s) → from < length s
+      go (yes h) = h
+      go (no h) = absurd (true≢false (sym e ∙ past_end (omega arith)))
+
+  module _ (h : from < length s) where
+    -- its last byte is the text's
+    pub last_byte : eqb (get_or s (length s - 1) 0) 10 ≡ is_ended (drop from s)
+    last_byte =
+        let i : from + (length (drop from s) - 1) ≡ length s - 1 = omega (arith, length-drop from s) in
+        ap (λ (b : ℕ). eqb b 10) (sym (get_or-drop from s (length (drop from s) - 1) 0 ∙ ap (λ (j : ℕ). get_or s j 0) i))
+
+    text-part : take (length s - 1 - from) (drop from s) ≡ text_in (drop from s)
+    text-part = let n : length s - 1 - from ≡ length (drop from s) - 1 = omega (arith, length-drop from s) in rw n
+
+  -- where byte 10 ends it, the sheet of what stands before that is printed
+  pub after-ended : (k : ℕ) → is_ended (drop from s) ≡ true → printed (sheet_for (take (length s - 1 - from) (drop from s)) k) ≡ after_first k (drop from s)
+  after-ended k e = rw (text-part (ended-inside e), e)
+
+  -- where it doesn't, a refusal is
+  pub after-unended : (k : ℕ) → is_ended (drop from s) ≡ false
+      → cond (leb (length s - from) 1024) (refused_text 2 2) (refused_text 19 1025) ≡ after_first k (drop from s)
+  after-unended k e = rw (e, length-drop from s)
 
 -- ════ the sheet ════
 

@@ -261,6 +261,10 @@ module _ {s : List ℕ} {w : Run} (r : IsRun s 6 w) where
       ),
     )
 
+-- the scale of a part, by its count of digits
+pub scale-is : (k r j : ℕ) → k ≡ j → r ≡ 10 ^ (4 - j) → r ≡ 10 ^ (4 - k)
+scale-is k r j e h = h ∙ ap (λ (i : ℕ). 10 ^ (4 - i)) (sym e)
+
 -- ════ leaves ════
 
 converts-factor : (n i : ℕ) (ls : List TextLine) → convert n (factor i) ls ≡ operand (line (reference n i)) ls

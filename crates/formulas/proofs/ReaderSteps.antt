@@ -29,7 +29,8 @@ use Rattle.formulas.proofs.Laws.{shorter, digit-shorter, strip-some}
 
 -- ════ atoms ════
 
-no_room : (room : ℕ) (s : List ℕ) → room ≡ 0 → atom_at room s ≡ leaf_at s
+-- with no room for a bracket there is a leaf
+pub no_room : (room : ℕ) (s : List ℕ) → room ≡ 0 → atom_at room s ≡ leaf_at s
 unfolding atom_at
 no_room zero s e = refl
 no_room (suc room) s e = absurd (omega arith)
@@ -268,9 +269,9 @@ pub record Loop (signs : ℕ → Option Sign) (a : List ℕ → Found Tree) (h�
   pub going : (t₀ : Tree) (k₀ : ℕ) → length u₀ ≤ k₀ → Going signs a h₀.factors h₀ x₀ u₀ h x u t₀ k₀
 
 -- The reader `whole` reads a chain: what a reads, joined by the signs
-record Chains (signs : ℕ → Option Sign) (a whole : List ℕ → Found Tree) : Type 0 where
-  first : (u : List ℕ) (t : Tree) (v : List ℕ) → a u ≡ good t v → whole u ≡ chain signs a (length v) t v
-  stuck : (u v : List ℕ) → a u ≡ stuck v → whole u ≡ stuck v
+pub record Chains (signs : ℕ → Option Sign) (a whole : List ℕ → Found Tree) : Type 0 where
+  pub first : (u : List ℕ) (t : Tree) (v : List ℕ) → a u ≡ good t v → whole u ≡ chain signs a (length v) t v
+  pub stuck : (u v : List ℕ) → a u ≡ stuck v → whole u ≡ stuck v
 
 rank-chains : (k : rank.Rank) (a : List ℕ → Found Tree) → Chains (signs k) (operands k a) (joined_at k a)
 unfolding product_at sum_at

@@ -2,10 +2,10 @@
 use Prim.Native.Nat.{ℕ, ◌+◌, ◌-◌, ◌≤◌, ◌<◌}
 use mathlib.Core.List.{List, [], ◌∷◌, ◌++◌}
 use mathlib.Core.Option.{Option, none, some}
-use mathlib.Core.Path.{◌≡◌, refl, sym, ap, subst, ◌∙◌}
+use mathlib.Core.Path.{◌≡◌, refl, sym, ap, ap₂, subst, ◌∙◌}
 use native.Mathlib.Decide.{dec_lt}
 use native.Mathlib.Omega.{arith}
-use lib.ListN.{length, take, drop, replicate, length-append, length-take}
+use lib.ListN.{length, take, drop, replicate, length-append, length-take, length-drop, drop_of_length-le}
 use lib.Seq.{take_all, length-take-le, take-append_seam}
 use borrow.Author.Tests.{lt-leb}
 use Rattle.std.specs.Borrow.{Bor}
@@ -22,15 +22,41 @@ use Rattle.formulas.specs.declared.Refusal.{Refusal}
 use Rattle.formulas.specs.declared.Refusal.TheVariants.{Text, Constants}
 use Rattle.formulas.specs.declared.lines.Operand.{Operand as Held}
 use Rattle.formulas.specs.declared.lines.Sheet.{Sheet}
-use Rattle.formulas.specs.InFull as converted
+use Rattle.formulas.specs.InFull as made
 use Rattle.formulas.specs.InFull.{Converted}
-use Rattle.formulas.specs.Grammar.{Tree, longest}
+use Rattle.formulas.specs.Grammar.{Tree, deepest, longest}
 use Rattle.formulas.specs.Convert.{Conversion, operand, mixed, count_of, convert, lines_text, sheet_text, sheet_from, sheet_of}
-use Rattle.formulas.specs.Read.{Parsed, tree, fault, parse}
+use Rattle.formulas.specs.Read.{good, stuck, sum_at, atom_at, Parsed, tree, fault, ended, place_in, parse}
 use Rattle.formulas.specs.Load.{Given, given, refused, from_sheet, from_parsed, sheet_for, loaded_sheet, formula_of, first_bytes, answered, converted_of, buffer_after, buffer_of}
 use Rattle.formulas.specs.Answer.{in_bytes}
 use Rattle.formulas.specs.Views.{Parses, Drafts, HoldsAll, Works, begun}
-use Rattle.formulas.proofs.Exactly.{long}
+use Rattle.formulas.proofs.Exactly.{short, long}
+
+-- ════ what was read ════
+
+-- of a text that is not too long
+module _ (s : List ℕ) (h : length s ≤ longest) where
+  place-is : (k : ℕ) → k ≤ length s → fault (place_in (length s) (drop k s)) ≡ fault (k + 1)
+  place-is k g = let n : length s - length (drop k s) ≡ k = omega (arith, length-drop k s) in ap (λ (i : ℕ). fault (i + 1)) n
+
+  -- the reader stops at a byte: the text fails there
+  pub parse-stuck : (k : ℕ) → k ≤ length s → sum_at (atom_at deepest) s ≡ stuck (drop k s) → parse s ≡ fault (k + 1)
+  parse-stuck k g e = short s h ∙ ap (ended (length s)) e ∙ place-is k g
+
+  ended_some : (n : ℕ) (t : Tree) (u : List ℕ) → 1 ≤ length u → ended n (good t u) ≡ fault (place_in n u)
+  ended_some n t [] g = absurd (omega arith)
+  ended_some n t (b ∷ u) g = refl
+
+  -- it leaves bytes behind a tree: the text fails at the first of them
+  pub parse-left : (k : ℕ) (t : Tree) → k < length s → sum_at (atom_at deepest) s ≡ good t (drop k s) → parse s ≡ fault (k + 1)
+  parse-left k t g e =
+      short s h ∙ ap (ended (length s)) e ∙ ended_some (length s) t (drop k s) (omega (arith, length-drop k s))
+      ∙ place-is k (omega arith)
+
+  -- it leaves none: the text is that tree's
+  pub parse-whole : (k : ℕ) (t : Tree) → length s ≤ k → sum_at (atom_at deepest) s ≡ good t (drop k s) → parse s ≡ tree t
+  parse-whole k t g e =
+      short s h ∙ ap (ended (length s)) e ∙ ap (λ (u : List ℕ). ended (length s) (good t u)) (drop_of_length-le s g)
 
 -- ════ what it gives ════
 
@@ -154,11 +180,11 @@ drafted-refusal (refused r) why h = ap refused (sym h)
 
 module _ (s : List ℕ) (k : ℕ) where
   module _ (d : Lent) (h : Drafts (sheet_for s k) (Ok d)) where
-    pub converts : (bytes : List ℕ) → bytes ≡ take d.at d.bytes → converted.Sheet (length bytes) ≡ converted_of s k
+    pub converts : (bytes : List ℕ) → bytes ≡ take d.at d.bytes → made.Sheet (length bytes) ≡ converted_of s k
     unfolding converted_of
     converts bytes e =
         let x = drafted-sheet (sheet_for s k) d h in
-        ap (λ (l : List ℕ). converted.Sheet (length l)) (e ∙ front d x.0 x.2) ∙ ap answered (sym x.1)
+        ap (λ (l : List ℕ). made.Sheet (length l)) (e ∙ front d x.0 x.2) ∙ ap answered (sym x.1)
 
     pub fills : (bytes sheet : List ℕ) → bytes ≡ take d.at d.bytes → length sheet ≡ 4097 → bytes ++ drop (length bytes) sheet ≡ buffer_of s k sheet
     unfolding buffer_of
@@ -170,35 +196,57 @@ module _ (s : List ℕ) (k : ℕ) where
         ∙ ap (λ (g : Given (List ℕ)). buffer_after g sheet) (sym x.1)
 
   pub refuses : (why : Refusal) → Drafts (sheet_for s k) (Err why)
-      → (converted.Refused why ≡ converted_of s k) × ((sheet : List ℕ) → sheet ≡ buffer_of s k sheet)
+      → (made.Refused why ≡ converted_of s k) × ((sheet : List ℕ) → sheet ≡ buffer_of s k sheet)
   unfolding converted_of buffer_of
   refuses why h =
       let e = drafted-refusal (sheet_for s k) why h in
       (ap answered (sym e), λ sheet. ap (λ (g : Given (List ℕ)). buffer_after g sheet) (sym e))
 
+module _ (s : List ℕ) (k : ℕ) (after : List ℕ) where
+  -- the front of a sheet, put into the buffer: what the call says, and what it leaves there
+  pub converted : (len : ℕ) (x : List ℕ) → sheet_for s k ≡ given x → Front after len x → (before exit : List ℕ) (at : ℕ)
+      → lent exit at ≡ put_text (lent before 0) (take len after) → (made.Sheet len ≡ converted_of s k) × (exit ≡ buffer_of s k before)
+  unfolding converted_of buffer_of
+  converted len x e f before exit at w = (
+    ap made.Sheet f.count ∙ ap answered (sym e),
+    ap (λ (o : Lent). o.bytes) (w ∙ ap (put_text (lent before 0)) f.bytes-are) ∙ ap (λ (g : Given (List ℕ)). buffer_after g before) (sym e),
+  )
+
 -- ════ what its caller finds, who lent 4,097 zeros ════
 
 module _ (s : List ℕ) (k : ℕ) (after : List ℕ) (e : after ≡ buffer_of s k (replicate 4097 0)) (r : Converted) (c : r ≡ converted_of s k) where
-  pub called-sheet : (len : ℕ) → r ≡ converted.Sheet len → (x : List ℕ) × (sheet_for s k ≡ given x) × Front after len x
+  -- the sheet's first bytes, put into the zeros
+  pub called-out : (len : ℕ) (x : List ℕ) → r ≡ made.Sheet len → sheet_for s k ≡ given x → lent after len ≡ put_text (lent (replicate 4097 0) 0) (first_bytes x)
   unfolding converted_of buffer_of
+  called-out len x q h =
+      let t : length (first_bytes x) ≤ 4097 = omega (arith, length-take 4097 x) in
+      let w = filled (replicate 4097 0) (first_bytes x) t in
+      let o : after ≡ (put_text (lent (replicate 4097 0) 0) (first_bytes x)).bytes = e ∙ ap (λ (g : Given (List ℕ)). buffer_after g (replicate 4097 0)) h in
+      let n : made.Sheet len ≡ made.Sheet (length (first_bytes x)) = sym q ∙ c ∙ ap answered h in
+      let m : len ≡ length (first_bytes x) = cc in
+      ap₂ lent (o ∙ ap (λ (y : Lent). y.bytes) w) m ∙ sym w
+
+  pub called-sheet : (len : ℕ) → r ≡ made.Sheet len → (x : List ℕ) × (sheet_for s k ≡ given x) × Front after len x
+  unfolding converted_of
   called-sheet len q = go (sheet_for s k) refl
     where
       go : (g : Given (List ℕ)) → sheet_for s k ≡ g → (x : List ℕ) × (sheet_for s k ≡ given x) × Front after len x
       go (given x) h =
           let t : length (first_bytes x) ≤ 4097 = omega (arith, length-take 4097 x) in
-          let o : after ≡ (put_text (lent (replicate 4097 0) 0) (first_bytes x)).bytes = e ∙ ap (λ (g : Given (List ℕ)). buffer_after g (replicate 4097 0)) h in
-          let b = o ∙ ap (λ (y : Lent). y.bytes) (filled (replicate 4097 0) (first_bytes x) t) in
-          let n : converted.Sheet len ≡ converted.Sheet (length (first_bytes x)) = sym q ∙ c ∙ ap answered h in
-          (x, h, in-front after (drop (length (first_bytes x)) (replicate 4097 0)) len x b (cc))
-      go (refused why) h = absurd (let n : converted.Sheet len ≡ converted.Refused why = sym q ∙ c ∙ ap answered h in let z : ◌≡◌ {A = ℕ} 0 1 = cc in omega arith)
+          let b = called-out len x q h ∙ filled (replicate 4097 0) (first_bytes x) t in (
+            x,
+            h,
+            in-front after (drop (length (first_bytes x)) (replicate 4097 0)) len x (ap (λ (o : Lent). o.bytes) b) (ap (λ (o : Lent). o.at) b),
+          )
+      go (refused why) h = absurd (let n : made.Sheet len ≡ made.Refused why = sym q ∙ c ∙ ap answered h in let z : ◌≡◌ {A = ℕ} 0 1 = cc in omega arith)
 
-  pub called-refusal : (why : Refusal) → r ≡ converted.Refused why → sheet_for s k ≡ refused why
+  pub called-refusal : (why : Refusal) → r ≡ made.Refused why → sheet_for s k ≡ refused why
   unfolding converted_of
   called-refusal why q = go (sheet_for s k) refl
     where
       go : (g : Given (List ℕ)) → sheet_for s k ≡ g → sheet_for s k ≡ refused why
-      go (given x) h = absurd (let n : converted.Sheet (length (first_bytes x)) ≡ converted.Refused why = sym (ap answered h) ∙ sym c ∙ q in let z : ◌≡◌ {A = ℕ} 0 1 = cc in omega arith)
-      go (refused r) h = let n : converted.Refused r ≡ converted.Refused why = sym (ap answered h) ∙ sym c ∙ q in let m : r ≡ why = cc in h ∙ ap refused m
+      go (given x) h = absurd (let n : made.Sheet (length (first_bytes x)) ≡ made.Refused why = sym (ap answered h) ∙ sym c ∙ q in let z : ◌≡◌ {A = ℕ} 0 1 = cc in omega arith)
+      go (refused r) h = let n : made.Refused r ≡ made.Refused why = sym (ap answered h) ∙ sym c ∙ q in let m : r ≡ why = cc in h ∙ ap refused m
 
 -- and what is loaded then
 pub loaded-given : (s : List ℕ) (k : ℕ) (x : List ℕ) → sheet_for s k ≡ given x → formula_of s k ≡ given (load_of x)

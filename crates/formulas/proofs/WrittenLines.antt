@@ -1,5 +1,6 @@
 -- Lines that are written are the lines of the conversion.
-use Prim.Native.Nat.{ℕ, suc, zero, ◌+◌, ◌^◌, ◌≤◌, ◌<◌}
+use Prim.Native.Nat.{ℕ, suc, zero, ◌+◌, ◌^◌, ◌≤◌, ◌<◌, min}
+use mathlib.Core.Bool.{true}
 use mathlib.Core.List.{List, [], ◌∷◌, ◌++◌, append_assoc, append-nil}
 use mathlib.Core.Path.{◌≡◌, refl, sym, ap, subst, ◌∙◌}
 use native.Mathlib.Omega.{arith}
@@ -12,6 +13,7 @@ use Rattle.std.proofs.Math.Facts.{to_z_pos, to_z-of_z}
 use lib.ListN.{length, length-append}
 use Rattle.std.specs.declared.option.Option.{Option as Maybe}
 use Rattle.std.specs.declared.option.Option.TheVariants.{Some}
+use Rattle.codelist.specs.Load.{saturated, value_of}
 use Rattle.codelist.specs.Text.{TextLine, Inv, two, line_text, absent, first_text, factors→, inv→}
 use Rattle.codelist.specs.Write.{plain, numeral_of}
 use Rattle.writer.specs.Lent.{Lent, put_text}
@@ -41,11 +43,22 @@ whole-text w i x h g = rw (natural-numeral i h, whole-numeral x g)
 minus-suc : (c : ℕ) → pos 0 -ℤ pos (suc c) ≡ negsuc c
 minus-suc c = omega (arith, ints)
 
--- an integer has one 0
-subtracted : (c : ℕ) → c < 10 ^ 10 → (x : ℤ) → x ≡ pos 0 -ℤ pos c → (numeral_of x ≡ negated c) × (nat_abs x < 10 ^ 10)
-unfolding numeral_of negated
+-- "a subtracted 0 is written `0`": an integer has one 0
+pub subtracted : (c : ℕ) → c < 10 ^ 10 → (x : ℤ) → x ≡ saturated (record { negative = true; magnitude = c })
+    → (numeral_of x ≡ negated c) × (nat_abs x < 10 ^ 10)
+unfolding saturated value_of numeral_of negated
 subtracted zero h x e = rw e (refl, h)
-subtracted (suc c) h x e = rw (e, minus-suc c) (refl, h)
+subtracted (suc c) h x e =
+    let m : min (suc c) 9223372036854775807 ≡ suc c = omega arith in
+    rw (e, m) (refl, h)
+
+-- that value is what is left of 0
+saturated-minus : (c : ℕ) → c < 10 ^ 10 → saturated (record { negative = true; magnitude = c }) ≡ pos 0 -ℤ pos c
+unfolding saturated value_of
+saturated-minus zero h = refl
+saturated-minus (suc c) h =
+    let m : min (suc c) 9223372036854775807 ≡ suc c = omega arith in
+    rw m (sym (minus-suc c))
 
 negation-fits : (c : ℕ) → c < 10 ^ 10 → mag (pos 0 -ℤ pos c) < 2 ^ 63
 negation-fits zero h = omega arith
@@ -56,9 +69,9 @@ negation c h =
     ap (λ (y : ℤ). to_z w64 (of_z w64 (pos 0 -ℤ y))) (to_z_pos w64 {n = c} (omega arith))
     ∙ to_z-of_z {w = w64} {z = pos 0 -ℤ pos c} (record { sfits = negation-fits c h })
 
--- "a subtracted 0 is written `0`", as the code computes it
+-- the same, as the code computes it
 pub negative : (c : ℕ) → c < 10 ^ 10 → numeral_of (to_z w64 (of_z w64 (pos 0 -ℤ to_z w64 c))) ≡ negated c
-negative c h = (subtracted c h _ (negation c h)).0
+negative c h = (subtracted c h _ (negation c h ∙ sym (saturated-minus c h))).0
 
 -- ════ one line more ════
 
