@@ -12,6 +12,7 @@ use lib.Seq.{take_at}
 use borrow.Author.Tests.{le-leb, leb-true, leb-false}
 use Rattle.codelist.specs.declared.Codelist.{Codelist}
 use Rattle.codelist.specs.InFull as loading
+use Rattle.codelist.specs.InFull.{Loaded}
 use Rattle.codelist.specs.declared.Refusal as load
 use Rattle.codelist.specs.Codelist.{WellFormed}
 use Rattle.codelist.specs.Load.{load_of, accepted}
@@ -23,7 +24,7 @@ use Rattle.codelist.proofs.Years.{own-text}
 use Rattle.liveness.specs.InFull.{Outcome, Written, Refused}
 use Rattle.liveness.specs.declared.Refusal.TheVariants.{Load, Short}
 use Rattle.liveness.specs.Tidied.{tidied}
-use Rattle.liveness.specs.Tidy.{after_load, tidy_of, buffer_of}
+use Rattle.liveness.specs.Tidy.{fitted, after_load, tidy_of, buffer_after, buffer_of}
 use Rattle.liveness.specs.Refusals.{Wrote}
 use Rattle.liveness.proofs.Tidied.{tidied-fine}
 use Rattle.liveness.proofs.Again.{idempotent}
@@ -116,6 +117,23 @@ year-unnamed c w h b = same-call (text_with year2016 c) (text_with absent c) (lo
   where
     load_is : (f : YearField) → year_of f ≡ some c.year → load_of (text_with f c) ≡ accepted c
     load_is f e = (accepted-exactly.where-written (text_with f c) c).1 (w, record { field = f; names = e; text = refl })
+
+-- ---- by what loading gave
+module _ (s : List ℕ) (x : Loaded) (e : x ≡ load_of s) where
+  -- an accepted text comes to its tidied text, where that fits
+  pub after-accepted : (k : ℕ) → x.outcome ≡ loading.Accepted → fitted (text_of (tidied x.codelist)) k ≡ tidy_of s k
+  unfolding tidy_of
+  after-accepted k h = rw (← e, h)
+
+  -- a refused one comes to that refusal
+  pub after-refused : (k : ℕ) (r : load.Refusal) → x.outcome ≡ loading.Refused r → Refused (Load r) ≡ tidy_of s k
+  unfolding tidy_of
+  after-refused k r h = rw (← e, h)
+
+  -- and the buffer after it
+  pub buffer-is : (b : List ℕ) (o : Outcome) → o ≡ tidy_of s (length b) → buffer_after o (text_of (tidied x.codelist)) b ≡ buffer_of s b
+  unfolding buffer_of
+  buffer-is b o h = rw (← e, ← h)
 
 -- ---- what is loaded can be tidied
 pub loaded_fine : (s : List ℕ) (c : Codelist) → accepted c ≡ load_of s → WellFormed c

@@ -110,7 +110,8 @@ module _ (c : Codelist) (w : WellFormed c) where
         ∙ ap (λ (x : Entry). used_from c k i || (used_from c k line && refers_to x.op i))
         (get_or-take c.count c.ops (k - 1) d (omega (arith, s.most)))
 
-    line_at : get_or xs line false ≡ used_from c k line
+    -- its mark says whether the later ones use it
+    pub line_at : get_or xs line false ≡ used_from c k line
     line_at = s.marks.at line (omega (arith, w.few, s.most))
 
     module _ (l : ℕ) (p : l ≡ line) where

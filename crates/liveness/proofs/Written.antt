@@ -8,7 +8,7 @@ use native.Mathlib.Omega.{arith}
 use lib.Dec.{leb}
 use lib.ListN.{length, get_or, take, drop, replicate, drop_of_length-le}
 use lib.Seq.{drop-cons, get_or-take, take_at}
-use borrow.Author.Tests.{lt-leb}
+use borrow.Author.Tests.{le-leb, lt-leb}
 use Rattle.codelist.specs.declared.Codelist.{Codelist}
 use Rattle.codelist.specs.declared.Entry.{Entry}
 use Rattle.codelist.specs.declared.Op.{Op}
@@ -21,8 +21,11 @@ use Rattle.codelist.proofs.Years.{own-text}
 use Rattle.rules.specs.Run.{operations}
 use Rattle.writer.specs.Lent.{Lent, lent, put_text}
 use Rattle.writer.proofs.Writing.{filled, put_text-append}
+use Rattle.liveness.specs.InFull.{Written, Refused}
+use Rattle.liveness.specs.declared.Refusal.TheVariants.{Short}
 use Rattle.liveness.specs.Used.{used}
 use Rattle.liveness.specs.Tidied.{kept, position, renumbered, tidy_ops, tidied_ops, tidied}
+use Rattle.liveness.specs.Tidy.{fitted}
 use Rattle.liveness.specs.Views.{Marks, Numbers, Ready, number_at, FewDigits}
 use Rattle.liveness.proofs.References.{earlier, renumbered-alike}
 use Rattle.liveness.proofs.Positions.{position-alike}
@@ -48,7 +51,8 @@ few-digits e f (Inv j) w = tt
 abbrev pub left : Codelist → ℕ → List ℕ
 left c k = ops_text (tidy_ops (kept c) (c.factors + k) (drop k (operations c)))
 
-left-start : (c : Codelist) → left c 0 ≡ ops_text (tidied_ops c)
+-- from the first on, all of them
+pub left-start : (c : Codelist) → left c 0 ≡ ops_text (tidied_ops c)
 left-start c = let a : c.factors + 0 ≡ c.factors = omega arith in rw a
 
 -- after the first line
@@ -59,7 +63,8 @@ begun c o p e f =
     (text-is c ∙ ap (λ (t : List ℕ). first_text (plain c.factors) (field_of c.year) ++ t) (sym (left-start c)))
     ∙ ap (λ (x : Lent). put_text x (text_of (tidied c))) e
 
-left_end : (c : Codelist) → WellFormed c → (k : ℕ) → c.count ≤ k → left c k ≡ []
+-- past the last, none
+pub left_end : (c : Codelist) → WellFormed c → (k : ℕ) → c.count ≤ k → left c k ≡ []
 left_end c w k h =
     let none : length (operations c) ≤ k = omega (arith, counted c w) in
     ap (λ (os : List Entry). ops_text (tidy_ops (kept c) (c.factors + k) os)) (drop_of_length-le (operations c) none)
@@ -134,15 +139,36 @@ module _ (c : Codelist) (marks : List Bool) (ns : List ℕ) (r : Ready c marks n
       ∙ after
 
 -- ---- the whole text, in 1,266 bytes
+-- the first n bytes of b are the text t
+pub record Fits (t b : List ℕ) (n : ℕ) : Type 0 where
+  pub long : n ≡ length t
+  pub front : take n b ≡ t
+
 module _ (c : Codelist) (w : WellFormed c) where
-  text-fits : length (text_of (tidied c)) ≤ 1266
+  -- it is no longer
+  pub text-fits : length (text_of (tidied c)) ≤ 1266
   text-fits = text-length (tidied c) (tidied-fine c w) (text_of (tidied c)) (own-text (tidied c))
+
+  -- put into an array of so many bytes, it stands at the front
+  pub in_array : (a b : List ℕ) (n : ℕ) → length a ≡ 1266 → lent b n ≡ put_text (lent a 0) (text_of (tidied c)) → Fits (text_of (tidied c)) b n
+  in_array a b n l e =
+      let t = text_of (tidied c) in
+      let f = e ∙ filled a t (omega (arith, text-fits)) in
+      let long : n ≡ length t = ap (λ (o : Lent). o.at) f in
+      let bytes : b ≡ t ++ drop (length t) a = ap (λ (o : Lent). o.bytes) f in
+      record { long = long; front = ap (take n) bytes ∙ take_at t (drop (length t) a) n (sym long) }
 
   pub whole : (o : Lent) (k : ℕ) → c.count ≤ k → put_text o (left c k) ≡ put_text (lent (replicate 1266 0) 0) (text_of (tidied c))
       → take o.at o.bytes ≡ text_of (tidied c)
   unfolding put_text
-  whole o k h e =
-      let t = text_of (tidied c) in
-      let n : length t ≤ 1266 = text-fits in
-      let f = sym (ap (put_text o) (left_end c w k h)) ∙ e ∙ filled (replicate 1266 0) t n in
-      ap (λ (o : Lent). take o.at o.bytes) f ∙ take_at t (drop (length t) (replicate 1266 0)) (length t) refl
+  whole o k h e = (in_array (replicate 1266 0) o.bytes o.at refl (sym (ap (put_text o) (left_end c w k h)) ∙ e)).front
+
+-- ---- a text of n bytes, for a buffer of k
+module _ (t : List ℕ) (k n : ℕ) (e : n ≡ length t) where
+  -- it is too short
+  pub no_room : k < n → Refused Short ≡ fitted t k
+  no_room h = rw (lt-leb (length t) k (omega arith))
+
+  -- it is long enough
+  pub has_room : n ≤ k → Written n ≡ fitted t k
+  has_room h = rw (le-leb (length t) k (omega arith)) (ap Written e)
