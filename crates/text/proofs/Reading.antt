@@ -39,7 +39,7 @@ pub one_more : (xs ys : List ℤ) (x : ℤ) → ys ≡ xs ++ (x ∷ []) → leng
 one_more xs ys x e = ap length e ∙ length_push xs x
 
 -- Before the end of the text
-unended : {A : Type 0} (s : List ℕ) (x y : A) → (s ≡ [] → ⊥) → at_end s x y ≡ y
+pub unended : {A : Type 0} (s : List ℕ) (x y : A) → (s ≡ [] → ⊥) → at_end s x y ≡ y
 unended [] x y n = absurd (n refl)
 unended (b ∷ s) x y n = refl
 

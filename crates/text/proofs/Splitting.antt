@@ -19,6 +19,7 @@ use Rattle.std.specs.List.{starts_with}
 use Rattle.std.specs.Slice.{IsGetRangeResult}
 use Rattle.std.proofs.lemmas.List.{take_rest}
 use Rattle.codelist.specs.Read.{peek, rest}
+use Rattle.codelist.proofs.Laws.{peek-in, rest-drop}
 use Rattle.text.specs.Input.{is_line, sheet_length}
 
 -- The line does not stand where no more bytes are left than its word has
@@ -39,6 +40,24 @@ line_is (c ∷ w) (b ∷ s) = elim (ℕ_discrete b c) [
   | yes e ↦ rw (e, eq-eqb c c refl) (line_is w s)
   | no n ↦ rw (ne_eqb b c n, ne_eqb c b (λ e. n (sym e)))
 ]
+
+-- One byte of it: the word has no other there, and the line goes on behind it; behind the word stands byte 10
+module _ (w s : List ℕ) (i j : ℕ) (h : j < length s) where
+  module _ (g : i < length w) where
+    -- another byte
+    pub line-stop : (get_or s j 0 ≡ get_or w i 0 → ⊥) → false ≡ is_line (drop i w) (drop j s)
+    unfolding is_line
+    line-stop n = rw (drop-cons w i 0 g, peek-in s j h, ne_eqb (get_or s j 0) (get_or w i 0) n)
+
+    -- the word's byte
+    pub line-more : get_or s j 0 ≡ get_or w i 0 → is_line (drop (i + 1) w) (drop (j + 1) s) ≡ is_line (drop i w) (drop j s)
+    unfolding is_line
+    line-more e = rw (drop-cons w i 0 g, peek-in s j h, eq-eqb (get_or s j 0) (get_or w i 0) e, add-one i, ← rest-drop)
+
+  -- behind the word
+  pub line-end : length w ≤ i → eqb (get_or s j 0) 10 ≡ is_line (drop i w) (drop j s)
+  unfolding is_line
+  line-end g = rw (drop_of_length-le w g, peek-in s j h)
 
 -- The sheet is no longer than the text
 pub sheet_length-≤ : (w : List ℕ) (start : Bool) (s : List ℕ) → sheet_length w start s ≤ length s
