@@ -25,7 +25,7 @@ use Rattle.fleet_text.proofs.Cut.{and_kept}
 use Rattle.boats.specs.InFull.{Counted}
 use Rattle.boats.specs.declared.Refusal.TheVariants.{Boats}
 use Rattle.boats.specs.Fleet.{fleet_of}
-use Rattle.fleet_text.specs.Input.{boats, boats_in}
+use Rattle.fleet_text.specs.Input.{boats, boat_lines, boats_in}
 use Rattle.fleet_text.specs.Views.{boats_from}
 use Rattle.fleet_text.specs.Output.{refusal_text, counted_text}
 use Rattle.fleet_text.specs.Answer.{loading_text, answer_of}
@@ -59,19 +59,30 @@ begun [] (x ∷ s) h e = rw e
 begun (b ∷ w) [] h e = absurd (let z : true ≡ false = sym e ∙ rw (ne_eqb 256 b (λ p. omega (arith, h.0, p))) in cc)
 begun (b ∷ w) (x ∷ s) h e = and_kept (eqb x b) (begun w s h.1) e
 
+module _ (s : List ℕ) (end : ℕ) (p : end ≡ sheet_length boats true s) (h : length s ≤ 102400) where
+  -- no line `boats` stands there
+  pub no-line : length s ≤ end → none ≡ boats_in s
+  unfolding boats_in
+  no-line g = rw (le-leb (length s) 102400 h, ← p, le-ltb end (length s) g)
+
+  -- one does, and the boat lines begin behind it
+  pub parted : end < length s → boat_lines 1000 [] (drop (end + 6) s) ≡ boats_in s
+  unfolding boats_in after_line
+  parted g =
+      let n : end + 6 ≡ end + 5 + 1 = omega arith in
+      rw (le-leb (length s) 102400 h, ← p, lt-ltb end (length s) g, n)
+
 module _ (s : List ℕ) (end : ℕ) (p : end ≡ sheet_length boats true s) where
   pub within : end ≤ length s
   within = rw p (sheet_length-≤ boats true s)
 
   pub as-read : length s ≤ 102400 → boats_from (drop end s) ≡ boats_in s
-  unfolding boats_in after_line
   as-read h = elim (dec_lt end (length s)) [
     | yes l ↦
         let b : Bytes boats = (lit< tt, (lit< tt, (lit< tt, (lit< tt, (lit< tt, tt))))) in
         let f = begun boats (drop end s) b (rw p (found boats true s (rw (← p) l))) in
-        let n : end + 6 ≡ end + 5 + 1 = omega arith in
-        rw (f, le-leb (length s) 102400 h, ← p, lt-ltb end (length s) l, ← n, drop-drop 6 end s)
-    | no l ↦ rw (drop_of_length-le s {i = end} (omega arith), le-leb (length s) 102400 h, ← p, le-ltb end (length s) (omega arith))
+        rw (f, drop-drop 6 end s) (parted s end p h l)
+    | no l ↦ rw (drop_of_length-le s {i = end} (omega arith)) (no-line s end p h (omega arith))
   ]
 
   -- ---- the whole: an empty engine, and the loading of what stands before that end

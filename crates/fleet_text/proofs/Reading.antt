@@ -14,6 +14,11 @@ use Rattle.boats.specs.Boats.{numbers_of}
 use Rattle.fleet_text.specs.Input.{byte_after, numbers, boat_lines}
 
 -- ---- the numerals of a line
+-- what stands behind one is a byte
+pub byte_small : (k : ℕ) → byte_after k < 256
+byte_small zero = omega arith
+byte_small (suc k) = omega arith
+
 pub byte-tab : (a : ℕ) → a < 7 → 9 ≡ byte_after (7 - a)
 byte-tab a h = let n : 7 - a ≡ suc (6 - a) = omega arith in rw n
 
