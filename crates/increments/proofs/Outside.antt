@@ -78,6 +78,14 @@ module _ (n : ℕ) (rs : List Range) (bs : List ℤ) where
   unfolding first_outside
   found = found_from 0 n
 
+  -- it is one of the factors
+  pub outside-few : first_outside n rs bs ≤ n
+  outside-few = go found
+    where
+      go : {m : ℕ} → Found 0 n m → m ≤ n
+      go (none h) = omega arith
+      go (lowest i l m e h) = omega arith
+
   -- where there is none, all are inside
   pub all-inside : 0 ≡ first_outside n rs bs → (a : ℕ) → a < n → both_in n rs bs a ≡ true
   all-inside z = go found z

@@ -229,10 +229,10 @@ module _ (n : ℕ) (g : List Range) (bs : List ℤ) (end : Range → ℤ → ℤ
 -- ════ the values of two boats, as they are read ════
 
 module _ (n : ℕ) (g : List Range) (bs : List ℤ) (p : Apart n g bs) (a : ℕ) (l : a < n) where
-  first_read : to_z w64 (of_z w64 (first bs a)) ≡ first bs a
+  pub first_read : to_z w64 (of_z w64 (first bs a)) ≡ first bs a
   first_read = few-read (first bs a) (omega (arith, p.first a l))
 
-  second-read : to_z w64 (of_z w64 (second n bs a)) ≡ second n bs a
+  pub second-read : to_z w64 (of_z w64 (second n bs a)) ≡ second n bs a
   second-read = few-read (second n bs a) (omega (arith, p.second a l))
 
   pub near : Near (apart_by n bs a)
