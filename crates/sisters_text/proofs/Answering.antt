@@ -1,26 +1,28 @@
 -- The parts of the answer: what the calls of the code gave, put together. Assumes nothing.
-use Prim.Native.Nat.{ℕ, ◌≤◌, ◌<◌}
+use Prim.Native.Nat.{ℕ, ◌+◌, ◌≤◌, ◌<◌}
+use mathlib.Core.Bool.{true}
 use mathlib.Core.List.{List, []}
 use mathlib.Core.Option.{Option, none, some}
 use mathlib.Core.Path.{◌≡◌, refl, sym, ap, ◌∙◌}
+use native.Mathlib.Omega.{arith}
 use lib.IntN.{ℤ}
-use lib.ListN.{length}
+use lib.ListN.{length, take, drop}
 use borrow.Author.Tests.{le-leb, lt-leb}
 use Rattle.codelist.specs.declared.Refusal.TheVariants.{TooLong}
 use Rattle.std.specs.Prelude.{Result, Ok, Err}
 use Rattle.range.specs.declared.Range.{Range}
 use Rattle.rules.specs.declared.Refusal.TheVariants.{RangeCount}
 use Rattle.engine.specs.declared.Engine.{Engine}
-use Rattle.engine.specs.InFull.{Loading}
+use Rattle.engine.specs.InFull.{Loading, Accepted}
 use Rattle.engine.specs.declared.Refusal.{Refusal}
 use Rattle.engine.specs.declared.Refusal.TheVariants.{Load, Rate}
 use Rattle.engine.specs.Engine.{empty_engine, loaded_of, loading_in_full}
 use Rattle.engine.proofs.Demands.{demands}
-use Rattle.text.specs.Input.{box, sheet_of, after_line, box_lines}
+use Rattle.text.specs.Input.{box, sheet_length, sheet_of, after_line, box_lines}
 use Rattle.text.specs.Output.{refusal_text}
 use Rattle.increments.specs.Call.{sisters_of, in_full}
 use Rattle.sisters_text.specs.Input.{boats, boats_in}
-use Rattle.sisters_text.specs.Answer.{sisters_text, loading_text, answer_of}
+use Rattle.sisters_text.specs.Answer.{sisters_text, loading_text, parts_text, answer_of}
 use Rattle.sisters_text.specs.Output.{difference_text}
 use Rattle.sisters_text.specs.Views.{told}
 
@@ -37,6 +39,21 @@ as_told : (r : Result Range Refusal) → told r ≡ difference_text (in_full r)
 as_told (Ok x) = refl
 as_told (Err why) = refl
 
+-- What calls gave of `rate`'s input s: where its sheet ends, an empty engine, and the loading of what stands before that end. The boat lines are t.
+module _
+    (s t : List ℕ) (end : ℕ) (p : end ≡ sheet_length box true s) (o : Engine) (n : o ≡ empty_engine)
+    (l : Loading) (e : l ≡ loaded_of o (take end s)) where
+  parted : parts_text s t ≡ loading_text l (drop (end + 4) s) t
+  unfolding sheet_of after_line
+  parted =
+      let f : end + 3 + 1 ≡ end + 4 = omega arith in
+      simp (← p, ← n, ← e, f)
+
+  -- a loading that accepts leads to what the box lines and the boats give
+  pub loaded : (xs : Option (List ℤ)) (bs : List ℤ) → l.outcome ≡ Accepted → xs ≡ box_lines 8 [] (drop (end + 4) s)
+      → bs ≡ boats_in l.engine.codelist.factors t → sisters_text l.engine xs bs ≡ parts_text s t
+  loaded xs bs a b c = rw (parted, a, b, c)
+
 -- What the code's calls gave of the text s, which is not too long: the engine after the loading of the class's sheet
 module _ (s : List ℕ) (h : length s ≤ 8192) (e : Engine) where
   abbrev class : List ℕ
@@ -50,13 +67,13 @@ module _ (s : List ℕ) (h : length s ≤ 8192) (e : Engine) where
   not-loaded r l = sym (answered ∙ rw (← l))
 
   module _ (l : loading_in_full (Ok tt) e ≡ loaded_of empty_engine (sheet_of box class)) where
-    loaded : (b : Option (List ℤ)) → b ≡ box_lines 8 [] (after_line box class)
+    with-box : (b : Option (List ℤ)) → b ≡ box_lines 8 [] (after_line box class)
         → sisters_text e b (boats_in e.codelist.factors (after_line boats s)) ≡ answer_of s
-    loaded b q = sym (answered ∙ rw (← l, ← q))
+    with-box b q = sym (answered ∙ rw (← l, ← q))
 
     pub not-read : none ≡ box_lines 8 [] (after_line box class) → refusal_text (Rate RangeCount) ≡ answer_of s
-    not-read q = loaded none q
+    not-read q = with-box none q
 
     pub differ : (xs bs : List ℤ) (r : Result Range Refusal) → some xs ≡ box_lines 8 [] (after_line box class)
         → bs ≡ boats_in e.codelist.factors (after_line boats s) → in_full r ≡ sisters_of e xs bs → told r ≡ answer_of s
-    differ xs bs r q b d = as_told r ∙ ap difference_text (d ∙ ap (sisters_of e xs) b) ∙ loaded (some xs) q
+    differ xs bs r q b d = as_told r ∙ ap difference_text (d ∙ ap (sisters_of e xs) b) ∙ with-box (some xs) q
