@@ -22,9 +22,14 @@ use Rattle.margin.specs.declared.Refusal.TheVariants.{Rate, Ceiling}
 use Rattle.margin.specs.InFull.{Widen, Nowhere, Refused}
 use Rattle.margin.specs.Edge.{Moves, moves, most_units, candidates, found, edge_of, is_ceiling, edge_for}
 use Rattle.margin.specs.Promises.{BadCeiling, Smallest, NoneMoves}
+use Rattle.margin.specs.Search.{Rateable}
 use Rattle.margin.proofs.Candidates.{Scan, first, nothing, scan}
 use Rattle.margin.proofs.Best.{no-bit, both, Compared, compared}
 use Rattle.margin.proofs.Moving.{Rated, rating-of, moves-iff}
+
+-- what is rated, with its limits
+pub rateable : (c : Codelist) (xs : List ℤ) {x : Rating} → x ≡ rate_of c xs → x.outcome ≡ rating.Rated → Rateable c xs
+rateable c xs {x} e o = record { limits = x.limits; accepted = sym e ∙ ap (λ (o : rating.Outcome). record { outcome = o; limits = x.limits }) o }
 
 module _ (e : Engine) (xs : List ℤ) (ceiling : ℤ) {x : Rating} (is : x ≡ rate_of e.codelist xs) where
   pub edge-refused : {r : rules.Refusal} → x.outcome ≡ rating.Refused r → Refused (Rate r) ≡ edge_for e xs ceiling

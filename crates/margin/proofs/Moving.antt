@@ -24,7 +24,7 @@ use Rattle.engine.specs.Engine.{outcome_of, rated_of}
 use Rattle.engine.proofs.Validity.{accepted-valid}
 use Rattle.std.specs.Prelude.{Option, Ok}
 use Rattle.margin.specs.declared.Widening.{Widening}
-use Rattle.margin.specs.Edge.{wider, Moves, moves, edge_of, in_full}
+use Rattle.margin.specs.Edge.{wider, Moves, passes, moves, edge_of, in_full}
 use Rattle.margin.specs.Promises.{Factor}
 use Rattle.margin.specs.Search.{Rateable}
 use Rattle.margin.proofs.Best.{no-bit, Rising, Best, best-is}
@@ -57,6 +57,11 @@ module _ (c : Codelist) (xs : List ℤ) (ceiling : ℤ) (i w : ℕ) where
   pub moves-rated : {l : Limits} → rate_of c (wider xs i w) ≡ rated l → moves c xs ceiling i w ≡ lt_z ceiling l.value.high
   unfolding moves
   moves-rated e = rw e
+
+  -- and of any rating, by its outcome
+  pub moves-told : {x : Rating} → x ≡ rate_of c (wider xs i w) → moves c xs ceiling i w ≡ passes x.outcome x.limits.value ceiling
+  unfolding moves
+  moves-told e = rw e
 
   pub moves-iff : (moves c xs ceiling i w ≡ true) ↔ Moves c xs ceiling i w
   moves-iff = (to (rating-of c (wider xs i w)), from)

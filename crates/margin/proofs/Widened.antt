@@ -6,7 +6,7 @@ use native.Mathlib.Decide.{ℕ_discrete}
 use native.Mathlib.Omega.{arith}
 use lib.IntN.{ℤ, pos, ◌+ℤ◌, +ℤ_idr}
 use lib.ListN.{length, take, get_or, set, length-set, get_or-append}
-use lib.Seq.{get_or-set_same, get_or-set_other, set-get_or, take-set-lt, take-append_seam}
+use lib.Seq.{get_or-set_same, get_or-set_other, set-get_or, take-suc, take-suc-set, take-set-lt, take-append_seam}
 use lib.Signed.{◌≤ℤ◌, ≤ℤ_refl}
 use mir.Syntax.{w64}
 use mir.Val.{SFits, to_z, of_z}
@@ -146,17 +146,25 @@ module _ {c : Codelist} {xs : List ℤ} (R : Rateable c xs) where
             (record { order = (range-ends a h).order; low = ≤ℤ_refl _; high = ≤ℤ_refl _ }))
 
 -- ---- as the code makes it: the numbers copied, then one set anew
+-- a number more is copied
+pub copied_more : (out xs : List ℤ) (i : ℕ) {v : ℤ} → i < length out → i < length xs → take i out ≡ take i xs → v ≡ get_or xs i (pos 0)
+    → take (i + 1) (set out i v) ≡ take (i + 1) xs
+copied_more out xs i {v} l k e f =
+    let n : i + 1 ≡ suc i = omega arith in
+    rw n (take-suc-set out i v l ∙ rw (e, f) (sym (take-suc xs i (pos 0) k)))
+
 module _ {xs : List ℤ} {i : ℕ} (W : Widenable xs i) {w : ℕ} (b : w < 256) where
   high-in : high_at i < length xs
   high-in = omega (arith, W.some, W.among)
 
   -- no end passes what an `i64` holds
-  widened-fits : SFits w64 (get_or xs (high_at i) (pos 0) +ℤ pos w)
+  pub widened-fits : SFits w64 (get_or xs (high_at i) (pos 0) +ℤ pos w)
   widened-fits =
       let h = get_or xs (high_at i) (pos 0) in
       fits-abs (h +ℤ pos w) (omega (arith, add-abs h (pos w), in-limit h W.above W.below))
 
-  wider-copied : (out : List ℤ) {v : ℤ} → take (length xs) out ≡ xs → v ≡ to_z w64 (of_z w64 (get_or xs (high_at i) (pos 0) +ℤ pos w))
+  -- with the numbers copied before, the factor's high end is set
+  pub wider-copied : (out : List ℤ) {v : ℤ} → take (length xs) out ≡ xs → v ≡ to_z w64 (of_z w64 (get_or xs (high_at i) (pos 0) +ℤ pos w))
       → take (length xs) (set out (high_at i) v) ≡ wider xs i w
   unfolding wider
   wider-copied out {v} e f =
