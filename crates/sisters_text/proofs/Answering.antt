@@ -13,7 +13,7 @@ use Rattle.std.specs.Prelude.{Result, Ok, Err}
 use Rattle.range.specs.declared.Range.{Range}
 use Rattle.rules.specs.declared.Refusal.TheVariants.{RangeCount}
 use Rattle.engine.specs.declared.Engine.{Engine}
-use Rattle.engine.specs.InFull.{Loading, Accepted}
+use Rattle.engine.specs.InFull.{Loading, Accepted, Refused}
 use Rattle.engine.specs.declared.Refusal.{Refusal}
 use Rattle.engine.specs.declared.Refusal.TheVariants.{Load, Rate}
 use Rattle.engine.specs.Engine.{empty_engine, loaded_of, loading_in_full}
@@ -54,6 +54,10 @@ module _
       → bs ≡ boats_in l.engine.codelist.factors t → sisters_text l.engine xs bs ≡ parts_text s t
   loaded xs bs a b c = rw (parted, a, b, c)
 
+  -- and one that refuses gives its refusal
+  pub not-loaded : (r : Refusal) → l.outcome ≡ Refused r → refusal_text r ≡ parts_text s t
+  not-loaded r a = rw (parted, a)
+
 -- What the code's calls gave of the text s, which is not too long: the engine after the loading of the class's sheet
 module _ (s : List ℕ) (h : length s ≤ 8192) (e : Engine) where
   abbrev class : List ℕ
@@ -63,8 +67,9 @@ module _ (s : List ℕ) (h : length s ≤ 8192) (e : Engine) where
   unfolding answer_of
   answered = rw (le-leb (length s) 8192 h)
 
-  pub not-loaded : (r : Refusal) → loading_in_full (Err r) e ≡ loaded_of empty_engine (sheet_of box class) → refusal_text r ≡ answer_of s
-  not-loaded r l = sym (answered ∙ rw (← l))
+  pub load-refused : (r : Refusal) → loading_in_full (Err r) e ≡ loaded_of empty_engine (sheet_of box class) → refusal_text r ≡ answer_of s
+  unfolding sheet_of
+  load-refused r l = not-loaded class (after_line boats s) _ refl _ refl _ l r refl ∙ sym answered
 
   module _ (l : loading_in_full (Ok tt) e ≡ loaded_of empty_engine (sheet_of box class)) where
     with-box : (b : Option (List ℤ)) → b ≡ box_lines 8 [] (after_line box class)

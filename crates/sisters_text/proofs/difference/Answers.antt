@@ -5,7 +5,7 @@ use Rattle.rules.specs.declared.Refusal.TheVariants.{RangeCount}
 use Rattle.engine.specs.declared.Refusal.TheVariants.{Rate}
 use Rattle.text.specs.Boxes.{numbers_of}
 use Rattle.text.specs.Output.{refusal_text}
-use Rattle.sisters_text.proofs.Answering.{too_long, few-factors, not-loaded, not-read, differ}
+use Rattle.sisters_text.proofs.Answering.{too_long, few-factors, load-refused, not-read, differ}
 use Rattle.sisters_text.proofs.difference.Goals as goal
 
 pub returns-then-input-gt-MOST_INPUT : goal.returns-then-input-gt-MOST_INPUT
@@ -15,7 +15,7 @@ pub returns-in_err-load : goal.returns-in_err-load
 returns-in_err-load c =
     let p = err_from_is_err_and c.from_residual.result c.from_residual.ensures.1 in
     rw (p.1, p.2)
-    (not-loaded _ c.if-input-gt-MOST_INPUT.false _ _
+    (load-refused _ c.if-input-gt-MOST_INPUT.false _ _
     (rw (c.new-engine.ensures, c.parted-2.ensures.sheet, c.parted.ensures.sheet) at c.in_err-load.ensures))
 
 pub returns-in_err-boxes : goal.returns-in_err-boxes
