@@ -273,7 +273,7 @@ pub record Chains (signs : ℕ → Option Sign) (a whole : List ℕ → Found Tr
   pub first : (u : List ℕ) (t : Tree) (v : List ℕ) → a u ≡ good t v → whole u ≡ chain signs a (length v) t v
   pub stuck : (u v : List ℕ) → a u ≡ stuck v → whole u ≡ stuck v
 
-rank-chains : (k : rank.Rank) (a : List ℕ → Found Tree) → Chains (signs k) (operands k a) (joined_at k a)
+pub rank-chains : (k : rank.Rank) (a : List ℕ → Found Tree) → Chains (signs k) (operands k a) (joined_at k a)
 unfolding product_at sum_at
 rank-chains rank.TheVariants.Product a = record { first = λ u t v e. simp e; stuck = λ u v e. simp e }
 rank-chains rank.TheVariants.Sum a = record { first = λ u t v e. simp e; stuck = λ u v e. simp e }
@@ -282,14 +282,27 @@ sign-byte : (k : rank.Rank) (b : ℕ) (o : Sign) → signs k b ≡ some o → b 
 sign-byte rank.TheVariants.Product b o e = omega (arith, product-signs.byte b o e, byte-of-sign o)
 sign-byte rank.TheVariants.Sum b o e = omega (arith, sum-signs.byte b o e, byte-of-sign o)
 
--- no first operand
-pub chain-stops : {s u : List ℕ} (k : rank.Rank) (a : List ℕ → Found Tree) → Stops s (operands k a) u → Stops s (joined_at k a) u
-chain-stops {s} k a h = record { onward = h.onward; found = (rank-chains k a).stuck s _ h.found }
+-- A sign stands first in u, and v is behind it
+pub record Signed (signs : ℕ → Option Sign) (u : List ℕ) (o : Sign) (v : List ℕ) : Type 0 where
+  pub inside : length v + 1 ≡ length u
+  pub sign : signs (peek u) ≡ some o
+  pub behind : rest u ≡ v
 
-module _ (k : rank.Rank) (a : List ℕ → Found Tree) {s : List ℕ} {before h₀ : Sheet} {x₀ : Maybe code.Operand} {u₀ : List ℕ}
-    (f : Gone s before (operands k a) h₀ x₀ u₀) where
+pub rank-signed : {u v : List ℕ} {o : Sign} (k : rank.Rank) → (signs k (peek u) ≡ some o) × (rest u ≡ v) → Signed (signs k) u o v
+rank-signed {u} {v} {o} k e = record {
+  inside = omega (arith, shorter u (sign-byte k (peek u) o e.0), ap length e.1);
+  sign = e.0;
+  behind = e.1;
+}
+
+-- no first operand
+pub chain-stops : {signs : ℕ → Option Sign} {a whole : List ℕ → Found Tree} {s u : List ℕ} → Chains signs a whole → Stops s a u → Stops s whole u
+chain-stops {s = s} c h = record { onward = h.onward; found = c.stuck s _ h.found }
+
+module _ {signs : ℕ → Option Sign} {a : List ℕ → Found Tree} {s : List ℕ} {before h₀ : Sheet} {x₀ : Maybe code.Operand} {u₀ : List ℕ}
+    (f : Gone s before a h₀ x₀ u₀) where
   -- the loop begins with the first operand
-  pub loop-starts : Loop (signs k) (operands k a) h₀ x₀ u₀ h₀ x₀ u₀
+  pub loop-starts : Loop signs a h₀ x₀ u₀ h₀ x₀ u₀
   loop-starts = record {
     onward = omega arith;
     factors = refl;
@@ -298,55 +311,49 @@ module _ (k : rank.Rank) (a : List ℕ → Found Tree) {s : List ℕ} {before h�
     going = λ t₀ k₀ h. record { tree = t₀; rounds = k₀; enough = h; same = refl; works = λ base ls w. w };
   }
 
-  module _ {h : Sheet} {x : Maybe code.Operand} {u : List ℕ} (l : Loop (signs k) (operands k a) h₀ x₀ u₀ h x u) where
-    g : Going (signs k) (operands k a) h₀.factors h₀ x₀ u₀ h x u f.tree (length u₀)
+  module _ {h : Sheet} {x : Maybe code.Operand} {u : List ℕ} (l : Loop signs a h₀ x₀ u₀ h x u) where
+    g : Going signs a h₀.factors h₀ x₀ u₀ h x u f.tree (length u₀)
     g = l.going f.tree (length u₀) (omega arith)
 
-    whole-is : joined_at k a s ≡ chain (signs k) (operands k a) (length u₀) f.tree u₀
-    whole-is = (rank-chains k a).first s f.tree u₀ f.found
-
     -- no sign follows
-    pub chain-ends : signs k (peek u) ≡ none → Gone s before (joined_at k a) h x u
-    chain-ends e = record {
+    pub chain-ends : {whole : List ℕ → Found Tree} → Chains signs a whole → signs (peek u) ≡ none → Gone s before whole h x u
+    chain-ends c e = record {
       onward = omega (arith, f.onward, l.onward);
       factors = l.factors ∙ f.factors;
       few = omega (arith, f.few, l.few);
       short = l.short;
       tree = g.tree;
-      found = whole-is ∙ sym g.same ∙ chain-end (signs k) (operands k a) g.rounds g.tree u e;
+      found = c.first s f.tree u₀ f.found ∙ sym g.same ∙ chain-end signs a g.rounds g.tree u e;
       works = λ base ls d.
           subst (λ (n : ℕ). HoldsAll base h x (convert n g.tree ls)) f.factors
           (g.works base ls (subst (λ (n : ℕ). HoldsAll base h₀ x₀ (convert n f.tree ls)) (sym f.factors) (f.works base ls d)));
     }
 
     -- a sign stands there, and v is behind it
-    module _ {o : Sign} {v : List ℕ} (e : signs k (peek u) ≡ some o) (r : rest u ≡ v) where
-      sign-shorter : length v + 1 ≡ length u
-      sign-shorter = omega (arith, shorter u (sign-byte k (peek u) o e), ap length r)
-
+    module _ {o : Sign} {v : List ℕ} (e : Signed signs u o v) where
       -- and the operand behind it can be read
       pub sign-ready : Ready s before → (length v < length s) × Ready v h
       sign-ready q = (
-        omega (arith, f.onward, l.onward, sign-shorter),
+        omega (arith, f.onward, l.onward, e.inside),
         record {
           factors = omega (arith, q.factors, f.factors, l.factors);
-          few = omega (arith, q.few, f.few, l.few, sign-shorter);
+          few = omega (arith, q.few, f.few, l.few, e.inside);
         },
       )
 
       -- but is none
-      pub chain-breaks : {w : List ℕ} → Stops v (operands k a) w → Stops s (joined_at k a) w
-      chain-breaks {w} b = record {
-        onward = omega (arith, b.onward, f.onward, l.onward, sign-shorter);
-        found = whole-is ∙ go g.rounds g.enough g.same;
+      pub chain-breaks : {whole : List ℕ → Found Tree} {w : List ℕ} → Chains signs a whole → Stops v a w → Stops s whole w
+      chain-breaks {w = w} c b = record {
+        onward = omega (arith, b.onward, f.onward, l.onward, e.inside);
+        found = c.first s f.tree u₀ f.found ∙ go g.rounds g.enough g.same;
       }
         where
-          go : (i : ℕ) → length u ≤ i → chain (signs k) (operands k a) i g.tree u ≡ chain (signs k) (operands k a) (length u₀) f.tree u₀
-              → chain (signs k) (operands k a) (length u₀) f.tree u₀ ≡ stuck w
-          go zero d z = absurd (omega (arith, sign-shorter))
-          go (suc i) d z = sym z ∙ chain-stuck (signs k) (operands k a) u v i g.tree o e r w b.found
+          go : (i : ℕ) → length u ≤ i → chain signs a i g.tree u ≡ chain signs a (length u₀) f.tree u₀
+              → chain signs a (length u₀) f.tree u₀ ≡ stuck w
+          go zero d z = absurd (omega (arith, e.inside))
+          go (suc i) d z = sym z ∙ chain-stuck signs a u v i g.tree o e.sign e.behind w b.found
 
-      module _ {mid : Sheet} {y : Maybe code.Operand} {w : List ℕ} (b : Gone v h (operands k a) mid y w) where
+      module _ {mid : Sheet} {y : Maybe code.Operand} {w : List ℕ} (b : Gone v h a mid y w) where
         -- the two operands can be joined
         pub joinable : Ready s before → ((mid.factors ≤ 9) × (mid.lines ≤ 3000)) × Short x × Short y
         joinable q =
@@ -355,23 +362,23 @@ module _ (k : rank.Rank) (a : List ℕ → Found Tree) {s : List ℕ} {before h�
 
         -- less of the text is left
         pub chain-shrinks : length w < length u
-        chain-shrinks = omega (arith, b.onward, sign-shorter)
+        chain-shrinks = omega (arith, b.onward, e.inside)
 
         -- and the chain is one operand longer
-        pub chain-turns : {after : Sheet} {z : Maybe code.Operand} → Joined mid o x y after z → Loop (signs k) (operands k a) h₀ x₀ u₀ after z w
+        pub chain-turns : {after : Sheet} {z : Maybe code.Operand} → Joined mid o x y after z → Loop signs a h₀ x₀ u₀ after z w
         unfolding convert
         chain-turns {after} {z} j =
             let c = joined-few mid o x y after z j in
             record {
-              onward = omega (arith, b.onward, l.onward, sign-shorter);
+              onward = omega (arith, b.onward, l.onward, e.inside);
               factors = c.0 ∙ b.factors ∙ l.factors;
-              few = omega (arith, b.few, c.1, l.few, sign-shorter);
+              few = omega (arith, b.few, c.1, l.few, e.inside);
               short = c.2;
               going = λ t₀ k₀ q. next t₀ k₀ (l.going t₀ k₀ q);
             }
           where
-            next : (t₀ : Tree) (k₀ : ℕ) → Going (signs k) (operands k a) h₀.factors h₀ x₀ u₀ h x u t₀ k₀
-                → Going (signs k) (operands k a) h₀.factors h₀ x₀ u₀ after z w t₀ k₀
+            next : (t₀ : Tree) (k₀ : ℕ) → Going signs a h₀.factors h₀ x₀ u₀ h x u t₀ k₀
+                → Going signs a h₀.factors h₀ x₀ u₀ after z w t₀ k₀
             next t₀ k₀ m = go m.rounds m.enough m.same
               where
                 works' : (base : Lent) (ls : List TextLine) → HoldsAll base h₀ x₀ (convert h₀.factors t₀ ls)
@@ -381,13 +388,13 @@ module _ (k : rank.Rank) (a : List ℕ → Found Tree) {s : List ℕ} {before h�
                     b.works j (m.works base ls q)
 
                 go : (i : ℕ) → length u ≤ i
-                    → chain (signs k) (operands k a) i m.tree u ≡ chain (signs k) (operands k a) k₀ t₀ u₀
-                    → Going (signs k) (operands k a) h₀.factors h₀ x₀ u₀ after z w t₀ k₀
-                go zero d q = absurd (omega (arith, sign-shorter))
+                    → chain signs a i m.tree u ≡ chain signs a k₀ t₀ u₀
+                    → Going signs a h₀.factors h₀ x₀ u₀ after z w t₀ k₀
+                go zero d q = absurd (omega (arith, e.inside))
                 go (suc i) d q = record {
                   tree = join o m.tree b.tree;
                   rounds = i;
-                  enough = omega (arith, b.onward, sign-shorter);
-                  same = sym (chain-on (signs k) (operands k a) u v i m.tree o e r b.tree w b.found) ∙ q;
+                  enough = omega (arith, b.onward, e.inside);
+                  same = sym (chain-on signs a u v i m.tree o e.sign e.behind b.tree w b.found) ∙ q;
                   works = works';
                 }

@@ -7,6 +7,7 @@ use Rattle.formulas.proofs.ReaderSteps.{leaf_by_room, leaf-by-byte, leaf-gone, l
 use Rattle.formulas.proofs.Laws.{strip-some, strip-none}
 use Rattle.formulas.proofs.ReaderSteps.{opens, bracket-shorter, bracket-stops, bracket-open, bracket-closes}
 use Rattle.formulas.proofs.ReaderSteps.{power-stops, power-plain, power-none, power-up}
+use Rattle.formulas.proofs.ReaderSteps.{rank-chains, rank-signed}
 use Rattle.formulas.proofs.ReaderSteps.{loop-starts, sign-ready, joinable, chain-shrinks, chain-turns, chain-stops, chain-ends, chain-breaks}
 use Rattle.formulas.proofs.reader.+readers.Goals as goal
 use Rattle.formulas.proofs.reader.+readers.Goals.{atom-in_default-via-in-Some+else-room-gt0, atom-in_default-via-in_default}
@@ -89,41 +90,39 @@ powered-returns t c =
 pub joined-returns-in_err-left : goal.joined-returns-in_err-left
 joined-returns-in_err-left t c =
     let p = err_from_is_err_and c.from_residual.result c.from_residual.ensures.1 in
-    rw (p.1, p.2) (chain-stops c.args.rank (atom_at c.args.room) c.in_err-left.ensures)
+    rw (p.1, p.2) (chain-stops (rank-chains c.args.rank (atom_at c.args.room)) c.in_err-left.ensures)
 
 -- the loop begins behind the first operand
 pub joined-loop-sign-init : goal.joined-loop-sign-init
-joined-loop-sign-init t c = loop-starts c.args.rank (atom_at c.args.room) c.in_ok-left.ensures
+joined-loop-sign-init t c = loop-starts c.in_ok-left.ensures
 
 -- fewer bytes are left behind a sign
 pub joined-part-requires-in-Some : goal.joined-part-requires-in-Some
 joined-part-requires-in-Some t c =
-    omega (arith, sign-ready c.args.rank (atom_at c.args.room) c.in_ok-left.ensures c.loop-sign.invariant c.in-Some.ensures.0 c.in-Some.ensures.1 c.requires)
+    omega (arith, sign-ready c.in_ok-left.ensures c.loop-sign.invariant (rank-signed c.args.rank c.in-Some.ensures) c.requires)
 
 -- no operand behind a sign
 pub joined-returns-in_err-right : goal.joined-returns-in_err-right
 joined-returns-in_err-right t c =
     let p = err_from_is_err_and c.from_residual-in_err-right.result c.from_residual-in_err-right.ensures.1 in
-    rw (p.1, p.2) (chain-breaks c.args.rank (atom_at c.args.room) c.in_ok-left.ensures c.loop-sign.invariant c.in-Some.ensures.0 c.in-Some.ensures.1
-    c.in_err-right.ensures)
+    rw (p.1, p.2) (chain-breaks c.in_ok-left.ensures c.loop-sign.invariant (rank-signed c.args.rank c.in-Some.ensures)
+    (rank-chains c.args.rank (atom_at c.args.room)) c.in_err-right.ensures)
 
 -- the two operands can be joined
 pub joined-joined-left-requires : goal.joined-joined-left-requires
 joined-joined-left-requires t c =
-    joinable c.args.rank (atom_at c.args.room) c.in_ok-left.ensures c.loop-sign.invariant c.in-Some.ensures.0 c.in-Some.ensures.1 c.in_ok-right.ensures
-    c.requires
+    joinable c.in_ok-left.ensures c.loop-sign.invariant (rank-signed c.args.rank c.in-Some.ensures) c.in_ok-right.ensures c.requires
 
 -- a turn leaves fewer bytes
 pub joined-loop-sign-smaller : goal.joined-loop-sign-smaller
 joined-loop-sign-smaller t c =
-    chain-shrinks c.args.rank (atom_at c.args.room) c.in_ok-left.ensures c.loop-sign.invariant c.in-Some.ensures.0 c.in-Some.ensures.1 c.in_ok-right.ensures
+    chain-shrinks c.in_ok-left.ensures c.loop-sign.invariant (rank-signed c.args.rank c.in-Some.ensures) c.in_ok-right.ensures
 
 -- and joins one operand more
 pub joined-loop-sign-preserved : goal.joined-loop-sign-preserved
 joined-loop-sign-preserved t c =
-    chain-turns c.args.rank (atom_at c.args.room) c.in_ok-left.ensures c.loop-sign.invariant c.in-Some.ensures.0 c.in-Some.ensures.1 c.in_ok-right.ensures
-    c.joined-left.ensures
+    chain-turns c.in_ok-left.ensures c.loop-sign.invariant (rank-signed c.args.rank c.in-Some.ensures) c.in_ok-right.ensures c.joined-left.ensures
 
 -- no sign more
 pub joined-returns : goal.joined-returns
-joined-returns t c = chain-ends c.args.rank (atom_at c.args.room) c.in_ok-left.ensures c.loop-sign.invariant c.in_default.ensures
+joined-returns t c = chain-ends c.in_ok-left.ensures c.loop-sign.invariant (rank-chains c.args.rank (atom_at c.args.room)) c.in_default.ensures
