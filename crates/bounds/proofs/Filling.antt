@@ -3,7 +3,7 @@
 use mathlib.Core.Path.{◌≡◌, refl, sym, ap, subst, ◌∙◌}
 use mathlib.Core.Bool.{Bool, true, false, ◌&&◌, cond, false≢true}
 use mathlib.Core.List.{List}
-use mathlib.Core.Logic.{inl}
+use mathlib.Core.Logic.{◌⊎◌, inl, inr}
 use Rattle.std.specs.Prelude.{Some, None}
 use Prim.Native.Nat.{ℕ, zero, suc, ◌+◌, ◌-◌, ◌*◌, ◌/◌, ◌^◌, ◌≤◌, ◌<◌}
 use native.Mathlib.Omega.{arith}
@@ -15,11 +15,12 @@ use lib.Seq.{get_or-set_same, get_or-set_other}
 use Rattle.range.specs.declared.Range.{Range}
 use Rattle.range.specs.Limit.{zero_range, is_valid}
 use Rattle.range.specs.Sums.{has, at}
+use Rattle.rules.specs.Table.{eight}
 use Rattle.rules.specs.Run.{each_valid}
 use Rattle.bounds.specs.declared.table.Table.{Table}
 use Rattle.bounds.specs.Terms.{member_or, over_members}
 use Rattle.bounds.specs.Table.{gradient_at, Beside, Filled}
-use Rattle.bounds.proofs.Members.{at-eight, is-eight}
+use Rattle.bounds.proofs.Members.{below_or, at-eight, is-eight}
 use Rattle.bounds.proofs.Pairs.{same-ranges}
 use Rattle.bounds.proofs.Validity.{zero-valid, each_at, each_more, read-valid}
 
@@ -123,3 +124,32 @@ filling-end {s} {f} {g} {a} h e i w =
       slopes = λ _. w.slopes ∙ all;
       beside = w.beside;
     }
+
+-- ---- the loop that copies the slopes l of an earlier line
+-- Those of the factors below a are copied, and the others are zero still.
+pub record Copying (l g : List Range) (a : ℕ) : Type 0 where
+  pub done : (b : ℕ) → b < a → at g b ≡ at l b
+  pub left : (b : ℕ) → a ≤ b → at g b ≡ zero_range
+
+pub copying-more : {l g : List Range} {a : ℕ} (r : Range) → Copying l g a → length g ≡ 8 → a < 8 → r ≡ at l a → Copying l (set g a r) (a + 1)
+copying-more {l} {g} {a} r i e h is = record {
+  done = below_more _ _
+      (λ b m. get_or-set_other g a b r zero_range (λ z. omega arith) ∙ i.done b m)
+      (get_or-set_same g a r zero_range (omega (arith, e)) ∙ is);
+  left = λ b m. get_or-set_other g a b r zero_range (λ z. omega arith) ∙ i.left b (omega arith);
+}
+
+-- those that are not copied are zero, and all are valid
+pub copying-end : {l g : List Range} {a : ℕ} {t : Table} {k : ℕ} {u : Table} → Holding g t k u → Copying l g a → l ≡ eight (at l)
+    → ((b : ℕ) → a ≤ b → b < 8 → at l b ≡ zero_range) → each_valid l ≡ true → Filled l t k (Some g) u
+copying-end {l} {g} {a} {t} {k} {u} w i e z v =
+    let all : g ≡ l = is-eight g (at l) w.eight (λ b m. go b m (below_or b a)) ∙ sym e in
+    record {
+      answer = ap (λ (l : List Range). Some l) all ∙ sym (ap (λ (b : Bool). cond b (Some l) None) v);
+      slopes = λ _. w.slopes ∙ all;
+      beside = w.beside;
+    }
+  where
+    go : (b : ℕ) → b < 8 → (b < a) ⊎ (a ≤ b) → at g b ≡ at l b
+    go b m (inl h) = i.done b h
+    go b m (inr h) = i.left b h ∙ sym (z b h m)

@@ -19,7 +19,7 @@ use Rattle.rules.specs.Run.{each_valid, within}
 use Rattle.bounds.specs.declared.table.Table.{Table}
 use Rattle.bounds.specs.declared.table.Head.{Head}
 use Rattle.bounds.specs.Terms.{over_members, Flat}
-use Rattle.bounds.specs.Table.{slopes_from, gradient_at, line_at, put_pair, Refers, Beside, Filled, if_valid, slopes_of, line_with, Placed, SettledLine, Worked}
+use Rattle.bounds.specs.Table.{slopes_from, gradient_at, support_at, line_at, put_pair, Refers, Beside, Filled, if_valid, slopes_of, line_with, Placed, SettledLine, Worked}
 use Rattle.bounds.proofs.Members.{below_or, eight-same, members-all, members-flat}
 use Rattle.bounds.proofs.Pairs.{put-long, put-read, put_other, same-pair, same-ranges}
 use Rattle.bounds.proofs.Validity.{gradient-valid, slope-over}
@@ -31,6 +31,13 @@ module _ {t : Table} {i k : ℕ} (r : Refers t i k) where
 
   pub refers-valid : each_valid (gradient_at t i) ≡ true
   refers-valid = gradient-valid (line_at t i) r.fine.valid
+
+  -- they are its own for the members of its set, and zero for the others
+  own-slopes : over_members (support_at t i) (at (gradient_at t i)) ≡ gradient_at t i
+  own-slopes = members-all (support_at t i) (at (gradient_at t i)) r.fine.flat
+
+  pub own-filled : {o : Option (List Range)} {x : Table} → Filled (gradient_at t i) t k o x → Filled (over_members (support_at t i) (at (gradient_at t i))) t k o x
+  own-filled q = rw own-slopes q
 
 -- ---- other lines
 module _ (t u : Table) (k : ℕ)

@@ -86,7 +86,7 @@ pub(crate) fn addc(t: &mut Table, i: usize, c: i64, k: usize) -> Option<[Range; 
         support: t.support(i),
         nonlinear: t.nonlinear(i),
     };
-    let g = t.fill(k, h.support, i, i, |g, _| g)?;
+    let g = t.copied(k, h.support, i);
     settle(t, k, h, g)
 }
 

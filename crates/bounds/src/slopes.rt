@@ -1,11 +1,11 @@
 // The slopes of a row, an array of eight ranges by value. Outside the set that a line depends on they are zero, so that only the members are
 // worked out, of slopes that are read where they lie in the table. Each is written to the table where it is worked out: a processor that copied
 // them from the array just after would wait for it.
-ghost use Rattle.std.specs.Prelude.{◌≡◌, true, ◌<◌};
+ghost use Rattle.std.specs.Prelude.{◌≡◌, true, ◌<◌, Some};
 ghost use Rattle.range.specs.declared.Range.{Range};
 ghost use Rattle.range.specs.Limit.{is_valid};
 ghost use Rattle.bounds.specs.Terms.{Told};
-ghost use Rattle.bounds.specs.Table.{Blank, Refers, Gives, ruled, Filled};
+ghost use Rattle.bounds.specs.Table.{gradient_at, support_at, Blank, Refers, Gives, ruled, Filled};
 
 use super::table::Table;
 use super::valid;
@@ -49,5 +49,28 @@ impl Table {
             }
         }
         Some(g)
+    }
+
+    // The slopes of the line k are those of the line i, which depends on the factors in the set: they are valid, and zero for other factors, so that
+    // none is tested.
+    pub(crate) fn copied(&mut self, k: usize, set: u8, i: usize) -> [Range; 8]
+        requires k_bound { k < 64 }
+        requires blank { Blank self.old k }
+        requires refers { Refers self.old i k }
+        requires set_value { set ≡ support_at self.old i }
+        ensures { Filled (gradient_at self.old i) self.old k (Some result) self.new }
+    {
+        let mut g = [Range::ZERO; 8];
+        // By the factor, of which both lines are asked.
+        for a in 0..8 {
+            // No member is left: small sets are common. Of wide ones all eight are copied, without a look at each, which takes less time.
+            if (set < 16) & (set >> a == 0) {
+                return g;
+            }
+            let r = self.slope(i, a);
+            g[a] = r;
+            self.put_slope(k, a, r);
+        }
+        g
     }
 }
