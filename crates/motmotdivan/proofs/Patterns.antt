@@ -1,11 +1,13 @@
 -- Patterns of eight bytes: as a number, which are finite, and that a whole number's is no NaN's.
-use Rattle.std.proofs.Common.{◌≡◌, ℕ, zero, suc, ◌+◌, ◌*◌, ◌/◌, ◌%◌, ◌^◌, ◌<◌, Bool, true, false, cond, not, T, eqb, ltb, leb, List, [], ◌∷◌, length, get_or, drop, ℤ, pos, negsuc, sym, refl, ap, ◌∙◌, subst, arith, drop_of_length-le, ltb-false, ltb-true, le-ltb, eq-eqb, ne_eqb}
+use Rattle.std.proofs.Common.{◌≡◌, ℕ, zero, suc, ◌+◌, ◌*◌, ◌/◌, ◌%◌, ◌^◌, ◌<◌, ◌≤◌, Bool, true, false, cond, not, T, eqb, ltb, leb, List, [], ◌∷◌, ◌++◌, length, get_or, take, drop, ℤ, pos, negsuc, sym, refl, ap, ◌∙◌, subst, mul_assoc, arith, length-drop, length-take-le, drop-drop, take-add, drop_of_length-le, ltb-false, ltb-true, le-ltb, eq-eqb, ne_eqb}
+use native.Mathlib.Nat.{pow-succ'}
 use lib.Ieee.{Float, nan, inf, binary64, odd, units, round, of_int, is_nan, of_fields, of_bits, nan_bits, prec, low, hid}
 use lib.Ieee.Bits.{nan_bits_above}
 use lib.Ieee.Fits.{round_is}
 use lib.Ieee.Scale.{finite}
 use Rattle.std.specs.Int.{w64, from_le_bytes, to_le_bytes}
 use Rattle.encoding.specs.Bytes.{number_of, low_first}
+use Rattle.encoding.proofs.Numbers.{number-four}
 use Rattle.motmotdivan.specs.Doubles.{no_whole, whole_of}
 use Rattle.motmotdivan.specs.Views.{finite_pattern}
 
@@ -15,6 +17,30 @@ number-step [] zero = refl
 number-step [] (suc k) = refl
 number-step (x ∷ xs) zero = refl
 number-step (x ∷ xs) (suc k) = number-step xs k
+
+number_append : (xs ys : List ℕ) → number_of (xs ++ ys) ≡ number_of xs + 256 ^ length xs * number_of ys
+unfolding number_of
+number_append [] ys = omega arith
+number_append (x ∷ xs) ys =
+    let e : 256 ^ suc (length xs) ≡ 256 * 256 ^ length xs = pow-succ' 256 (length xs) in
+    rw (number_append xs ys, e, mul_assoc 256 (256 ^ length xs) (number_of ys)) (omega arith)
+
+number-halves : (s : List ℕ) (at : ℕ) → at + 8 ≤ length s
+    → number_of (take 8 (drop at s)) ≡ number_of (take 4 (drop at s)) + 4_294_967_296 * number_of (take 4 (drop (at + 4) s))
+number-halves s at h =
+    let l : length (take 4 (drop at s)) ≡ 4 = length-take-le 4 (drop at s) (omega (arith, length-drop at s)) in
+    ap number_of (take-add 4 4 (drop at s)) ∙ number_append (take 4 (drop at s)) (take 4 (drop 4 (drop at s)))
+    ∙ rw (l, drop-drop 4 at s)
+
+-- Eight bytes from a place on, one by one
+pub number-eight : (s : List ℕ) (at : ℕ) → at + 8 ≤ length s → number_of (take 8 (drop at s))
+    ≡ get_or s at 0 + 256 * get_or s (at + 1) 0 + 65_536 * get_or s (at + 2) 0 + 16_777_216 * get_or s (at + 3) 0 + 4_294_967_296 * get_or s (at + 4) 0
+    + 1_099_511_627_776 * get_or s (at + 5) 0 + 281_474_976_710_656 * get_or s (at + 6) 0 + 72_057_594_037_927_936 * get_or s (at + 7) 0
+number-eight s at h =
+    let a : at + 4 + 1 ≡ at + 5 = omega arith in
+    let b : at + 4 + 2 ≡ at + 6 = omega arith in
+    let c : at + 4 + 3 ≡ at + 7 = omega arith in
+    number-halves s at h ∙ rw (number-four s at (omega arith), number-four s (at + 4) (omega arith), a, b, c) (omega arith)
 
 -- Eight bytes as std has them
 pub eight-read : (s : List ℕ) → length s ≡ 8 → from_le_bytes w64 s ≡ number_of s
@@ -71,6 +97,17 @@ unfolding of_bits
 pattern-not-finite p e =
     let h = ltb-false (unsigned p) most e in
     field-ones (leb (2 ^ 63) p) (p % 2 ^ 63 / 2 ^ 52) (p % 2 ^ 52) (omega arith)
+
+-- a half, which stands for one that is not finite: no whole number either
+abbrev a-half : ℕ
+a-half = 4_602_678_819_172_646_912
+
+pub half-none : whole_of (of_bits binary64 a-half) ≡ no_whole
+unfolding whole_of of_bits
+half-none = refl
+
+pub half-finite : T (finite (of_bits binary64 a-half))
+half-finite = pattern-finite a-half refl
 
 pub pattern_number : (p : ℕ) → finite_pattern p ≡ true → T (not (nan_bits binary64 p))
 pattern_number p e =

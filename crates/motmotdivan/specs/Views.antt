@@ -1,5 +1,6 @@
 -- For the contracts of private functions only.
 use Rattle.std.specs.Prelude.{◌≡◌, ℕ, ◌+◌, ◌/◌, ◌%◌, ◌<◌, ◌≤◌, min, Bool, cond, T, List, length, ℤ, pos, negsuc, nat_lt, slice_index_or, ◌==◌, Float, Option, Some, None}
+use Rattle.std.specs.Float.{nan}
 use Rattle.std.specs.Float.Ieee.Scale.{finite}
 use Rattle.std.specs.declared.result.Result.{Result}
 use Rattle.std.specs.declared.result.Result.TheVariants.{Ok, Err}
@@ -31,22 +32,14 @@ clamped no_whole = None
 abbrev pub finite_pattern : ℕ → Bool
 finite_pattern p = nat_lt (p % 9_223_372_036_854_775_808) 9_218_868_437_227_405_312
 
--- The number of a cell; and that the double in it is finite
-abbrev pub cell_number : Option Float → Number
-cell_number (Some x) = whole_of x
-cell_number None = no_whole
-
-abbrev pub Sure : Option Float → Type 0
-Sure (Some x) = T (finite x)
-Sure None = Unit
-
-pub record Cell (n : Number) (o : Option Float) : Type 0 where
-  pub number : cell_number o ≡ n
-  pub sure : Sure o
+-- A double of the number n, or of none; and it is finite
+pub record Cell (n : Number) (x : Float) : Type 0 where
+  pub number : whole_of x ≡ n
+  pub sure : T (finite x)
 
 -- The record of bytes, as far as the first m cells
 pub record HoldsBytes (b : List ℕ) (m : ℕ) (r : declared.Record) : Type 0 where
-  pub each : (k : ℕ) → k < m → Cell (number_at b k) (slice_index_or r.cells k None)
+  pub each : (k : ℕ) → k < m → Cell (number_at b k) (slice_index_or r.cells k nan)
 
 -- The first k numbers of the record b are whole, and in 64 bits those of xs
 abbrev pub Whole : List ℕ → List ℤ → ℕ → Type 0

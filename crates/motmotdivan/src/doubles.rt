@@ -5,13 +5,16 @@ ghost use Rattle.std.specs.Float.Ieee.{of_int};
 ghost use Rattle.std.specs.Float.Ieee.Scale.{finite};
 ghost use Rattle.encoding.specs.Bytes.{number_of};
 ghost use Rattle.motmotdivan.specs.Doubles.{whole_of, double_of};
-ghost use Rattle.motmotdivan.specs.Views.{Cell, Sure, cell_number, clamped, finite_pattern};
+ghost use Rattle.motmotdivan.specs.Views.{Cell, clamped, finite_pattern};
 
 // 2 ^ 53: up to it either way a whole number is a double exactly, and from it on every double is a whole number.
 const EXACT: u64 = 1 << 53;
 
+// What stands for a double that is not finite, since no f64 can be made of a NaN's pattern: no whole number either.
+const HALF: f64 = 0.5;
+
 // The whole number that a finite double is, if it is one: the nearest in 64 bits, so that one beyond the limit stays beyond it. Minus zero is equal to 0.
-fn whole_of(x: f64) -> Option<i64>
+pub(crate) fn whole_of(x: f64) -> Option<i64>
     requires { T (finite x) }
     ensures { result ≡ clamped (whole_of x) }
 {
@@ -22,14 +25,6 @@ fn whole_of(x: f64) -> Option<i64>
     (n as f64 == x).then_some(n)
 }
 
-// That of a cell, which holds finite doubles alone.
-pub(crate) fn number_of(cell: Option<f64>) -> Option<i64>
-    requires { Sure cell }
-    ensures { result ≡ clamped (cell_number cell) }
-{
-    whole_of(cell?)
-}
-
 // Whether a pattern is that of a finite double: its exponent is not all ones. Zeros of both signs are.
 fn is_finite(bits: u64) -> bool
     ensures { result ≡ finite_pattern bits }
@@ -37,15 +32,15 @@ fn is_finite(bits: u64) -> bool
     bits % 0x8000_0000_0000_0000 < 0x7ff0_0000_0000_0000
 }
 
-// The double of eight bytes, the lowest first, if it is finite: no f64 can be made of a NaN's pattern.
-pub(crate) fn finite(bytes: [u8; 8]) -> Option<f64>
+// The double of eight bytes, the lowest first, as far as it is finite: the same whole number, or none.
+pub(crate) fn finite(bytes: [u8; 8]) -> f64
     ensures { Cell (whole_of (from_bits binary64 (number_of bytes))) result }
 {
     let bits = u64::from_le_bytes(bytes);
     if is_finite(bits) {
-        Some(f64::from_bits(bits))
+        f64::from_bits(bits)
     } else {
-        None
+        HALF
     }
 }
 

@@ -11,10 +11,10 @@ pub(crate) const RANGES_LENGTH: usize = 128;
 
 pub(crate) const RESULT_LENGTH: usize = 192;
 
-// "a struct holding an array of f64", of the ranges' ends: those that are finite.
+// "a struct holding an array of f64", of the ranges' ends.
 #[derive(Clone, Copy)]
 pub struct Record {
-    pub cells: [Option<f64>; 16],
+    pub cells: [f64; 16],
 }
 
 // The record of 128 bytes, as far as the first m doubles: the others are ignored.
@@ -24,7 +24,7 @@ fn record_of(s: &[u8], m: usize) -> Record
     ensures { HoldsBytes s.now m result }
 {
     let (doubles, _) = s.as_chunks::<8>();
-    let mut record = Record { cells: [None; 16] };
+    let mut record = Record { cells: [0.0; 16] };
     // By the cell: the first m of the sixteen are read.
     for k in 0..m {
         record.cells[k] = doubles::finite(doubles[k]);
@@ -42,7 +42,7 @@ pub(crate) fn numbers_of(s: &[u8], values: &mut [i64]) -> Result<(), u64>
     let record = record_of(s, values.len());
     // By the cell, which is the place of a refusal.
     for k in 0..values.len() {
-        let Some(z) = doubles::number_of(record.cells[k]) else {
+        let Some(z) = doubles::whole_of(record.cells[k]) else {
             return Err(k as u64 / 2 + 1);
         };
         values[k] = z;
@@ -50,7 +50,8 @@ pub(crate) fn numbers_of(s: &[u8], values: &mut [i64]) -> Result<(), u64>
     Ok(())
 }
 
-// The ends of a range, low before high, in sixteen bytes.
+// The ends of a range, low before high, in sixteen bytes. Inlined: as eleven calls it took twice the instructions.
+#[inline(always)]
 fn put_range(s: &mut [u8], r: Range)
     requires { length s.old ≡ 16 }
     ensures { s.new ≡ doubles_of (ends_of (r ∷ [])) }

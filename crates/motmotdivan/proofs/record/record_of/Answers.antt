@@ -1,8 +1,7 @@
 -- `record_of` meets its contract: the cells passed are as the bytes have them.
-use Rattle.std.proofs.Common.{◌≡◌, ℕ, zero, suc, ◌+◌, ◌*◌, ◌/◌, ◌<◌, List, length, get_or, take, drop, refl, ap, ◌∙◌, subst, arith, drop-drop, length-set, get_or-set_other, get_or-set_same, below_more, None}
+use Rattle.std.proofs.Common.{◌≡◌, ℕ, zero, suc, ◌+◌, ◌*◌, ◌/◌, ◌<◌, List, length, get_or, take, drop, refl, ap, ◌∙◌, subst, arith, drop-drop, length-set, get_or-set_other, get_or-set_same, below_more}
 use Rattle.std.specs.Simd.{first_chunks}
-use Rattle.std.specs.declared.option.Option.{Option}
-use lib.Ieee.{Float, binary64, of_bits}
+use lib.Ieee.{Float, nan, binary64, of_bits}
 use Rattle.encoding.specs.Bytes.{number_of}
 use Rattle.motmotdivan.specs.Doubles.{whole_of}
 use Rattle.motmotdivan.specs.Record.{number_at}
@@ -17,11 +16,11 @@ chunk s (suc k) (suc n) d h =
     let e : 8 + 8 * k ≡ 8 * suc k = omega arith in
     chunk (drop 8 s) k n d (omega arith) ∙ ap (take 8) (drop-drop (8 * k) 8 s) ∙ ap (λ (j : ℕ). take 8 (drop j s)) e
 
-here : (s : List ℕ) (chunks : List (List ℕ)) (k : ℕ) (d : List ℕ) (o : Option Float) → chunks ≡ first_chunks 8 (length s / 8) s → k < length s / 8
-    → Cell (whole_of (of_bits binary64 (number_of (get_or chunks k d)))) o → Cell (number_at s k) o
+here : (s : List ℕ) (chunks : List (List ℕ)) (k : ℕ) (d : List ℕ) (x : Float) → chunks ≡ first_chunks 8 (length s / 8) s → k < length s / 8
+    → Cell (whole_of (of_bits binary64 (number_of (get_or chunks k d)))) x → Cell (number_at s k) x
 unfolding number_at
-here s chunks k d o e h c =
-    subst (λ (t : List ℕ). Cell (whole_of (of_bits binary64 (number_of t))) o) (ap (λ (l : List (List ℕ)). get_or l k d) e ∙ chunk s k (length s / 8) d h) c
+here s chunks k d x e h c =
+    subst (λ (t : List ℕ). Cell (whole_of (of_bits binary64 (number_of t))) x) (ap (λ (l : List (List ℕ)). get_or l k d) e ∙ chunk s k (length s / 8) d h) c
 
 pub loop-k-preserved : goal.loop-k-preserved
 loop-k-preserved c =
@@ -30,11 +29,11 @@ loop-k-preserved c =
     let k = c.loop-k.k in
     let cells = c.loop-k.record.cells in
     let l : k < length cells = omega (arith, i.0, c.requires.m_bound, c.loop-k-test.true) in
-    let o = c.finite.result in (
-      length-set cells k o ∙ i.0,
+    let x = c.finite.result in (
+      length-set cells k x ∙ i.0,
       below_more _ k
-          (λ j h. let ne : ¬ (j ≡ k) = omega arith in rw (get_or-set_other cells k j o None ne) (i.1 j h))
-          (rw (get_or-set_same cells k o None l) (here s _ k _ o c.as_chunks.ensures.front (omega (arith, c.requires, c.loop-k-test.true)) c.finite.ensures)),
+          (λ j h. let ne : ¬ (j ≡ k) = omega arith in rw (get_or-set_other cells k j x nan ne) (i.1 j h))
+          (rw (get_or-set_same cells k x nan l) (here s _ k _ x c.as_chunks.ensures.front (omega (arith, c.requires, c.loop-k-test.true)) c.finite.ensures)),
     )
 
 pub returns : goal.returns
