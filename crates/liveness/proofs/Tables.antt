@@ -135,10 +135,8 @@ module _ (c : Codelist) (w : WellFormed c) where
 abbrev pub keeps : ℕ → List Bool → ℕ → Bool
 keeps n used i = leb i n || get_or used i false
 
-module _ (n : ℕ) (used : List Bool) where
-  abbrev k : ℕ → Bool
-  k = keeps n used
-
+-- of the lines that k keeps
+module _ (k : ℕ → Bool) where
   -- the numbers of the lines before line i
   pub record Counted (ns : List ℕ) (next i : ℕ) : Type 0 where
     pub whole : length ns ≡ 65
@@ -160,8 +158,8 @@ module _ (n : ℕ) (used : List Bool) where
   }
 
   module _ (ns : List ℕ) (next i : ℕ) (c : Counted ns next i) (h : i < 65) where
-    step : (m : ℕ) → m ≤ i → m ≡ position k i → Counted (set ns i m) m (i + 1)
-    step m l e = record {
+    pub counted_next : (m : ℕ) → m ≤ i → m ≡ position k i → Counted (set ns i m) m (i + 1)
+    counted_next m l e = record {
       whole = length-set ns i m ∙ c.whole;
       least = omega arith;
       most = omega arith;
@@ -174,21 +172,27 @@ module _ (n : ℕ) (used : List Bool) where
         go j p (yes y) = ap (λ (x : ℕ). get_or (set ns i m) x 0) y ∙ get_or-set_same ns i m 0 (omega (arith, c.whole)) ∙ e ∙ ap (position k) (sym y)
         go j p (no y) = get_or-set_other ns i j m 0 y ∙ c.before j (omega arith)
 
+-- and of those that the test keeps
+module _ (n : ℕ) (used : List Bool) where
+  abbrev k : ℕ → Bool
+  k = keeps n used
+
+  module _ (ns : List ℕ) (next i : ℕ) (c : Counted k ns next i) (h : i < 65) where
     before_i : suc (i - 1) ≡ i
     before_i = omega (arith, c.least)
 
-    kept : k i ≡ true → Counted (set ns i (next + 1)) (next + 1) (i + 1)
+    kept : k i ≡ true → Counted k (set ns i (next + 1)) (next + 1) (i + 1)
     kept g =
-        step (next + 1) (omega (arith, c.fewer))
+        counted_next k ns next i c h (next + 1) (omega (arith, c.fewer))
         (rw (add-one next) (ap suc c.number ∙ sym (position-kept k (i - 1) (ap k before_i ∙ g)) ∙ ap (position k) before_i))
 
-    pub counted_factor : i ≤ n → Counted (set ns i (next + 1)) (next + 1) (i + 1)
+    pub counted_factor : i ≤ n → Counted k (set ns i (next + 1)) (next + 1) (i + 1)
     counted_factor l = kept (rw (le-leb i n l))
 
-    pub counted_used : get_or used i false ≡ true → Counted (set ns i (next + 1)) (next + 1) (i + 1)
+    pub counted_used : get_or used i false ≡ true → Counted k (set ns i (next + 1)) (next + 1) (i + 1)
     counted_used g = kept (rw (g, or-true))
 
-    pub counted_unused : n < i → get_or used i false ≡ false → Counted (set ns i next) next (i + 1)
+    pub counted_unused : n < i → get_or used i false ≡ false → Counted k (set ns i next) next (i + 1)
     counted_unused l g =
-        step next (omega (arith, c.fewer))
+        counted_next k ns next i c h next (omega (arith, c.fewer))
         (c.number ∙ sym (position-dropped k (i - 1) (ap k before_i ∙ rw (lt-leb i n l, g))) ∙ ap (position k) before_i)

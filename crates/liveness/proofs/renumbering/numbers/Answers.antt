@@ -4,7 +4,7 @@ use Rattle.liveness.proofs.renumbering.numbers.Goals as goal
 use Rattle.liveness.proofs.renumbering.numbers.Goals.{then-i-from, then-i-from-via-then-i-from, then-i-from-via-else-i-from+then-used-i, else-i-from+else-used-i}
 
 pub loop-i-init : goal.loop-i-init
-loop-i-init c = counted_start _ _
+loop-i-init c = counted_start _
 
 pub loop-i-preserved : goal.loop-i-preserved
 loop-i-preserved c =

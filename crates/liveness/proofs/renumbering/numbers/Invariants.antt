@@ -1,5 +1,5 @@
-use Rattle.liveness.proofs.Tables.{Counted}
+use Rattle.liveness.proofs.Tables.{keeps, Counted}
 use Rattle.liveness.proofs.renumbering.numbers.Given as goal
 
 abbrev pub invariant-loop-i : goal.invariant-loop-i
-invariant-loop-i l = Counted l.factors l.used l.numbers l.next l.i
+invariant-loop-i l = Counted (keeps l.factors l.used) l.numbers l.next l.i
