@@ -63,7 +63,7 @@ impl Table {
         let mut g = [Range::ZERO; 8];
         // By the factor, of which both lines are asked.
         for a in 0..8 {
-            // No member is left: small sets are common. Of wide ones all eight are copied, without a look at each, which takes less time.
+            // No member is left: small sets are common. Where there is one behind the fourth factor all eight are copied, which takes less time than a look at each.
             if (set < 16) & (set >> a == 0) {
                 return g;
             }

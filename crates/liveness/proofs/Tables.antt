@@ -19,7 +19,7 @@ use Rattle.rules.specs.Run.{operations}
 use Rattle.liveness.specs.Used.{refers_to, used_by, used}
 use Rattle.liveness.specs.Tidied.{position}
 use Rattle.liveness.specs.Views.{Marks, mark, marked}
-use Rattle.liveness.proofs.Positions.{position-kept, position-dropped}
+use Rattle.liveness.proofs.Positions.{position-kept, position-dropped, position-least}
 use Rattle.liveness.proofs.Used.{counted}
 
 -- ════ the marks ════
@@ -158,12 +158,12 @@ module _ (k : ℕ → Bool) where
   }
 
   module _ (ns : List ℕ) (next i : ℕ) (c : Counted ns next i) (h : i < 65) where
-    pub counted_next : (m : ℕ) → m ≤ i → m ≡ position k i → Counted (set ns i m) m (i + 1)
-    counted_next m l e = record {
+    pub counted_next : (m : ℕ) → m ≡ position k i → Counted (set ns i m) m (i + 1)
+    counted_next m e = record {
       whole = length-set ns i m ∙ c.whole;
       least = omega arith;
       most = omega arith;
-      fewer = omega arith;
+      fewer = omega (arith, e, position-least k i);
       number = e ∙ (let p : i ≡ i + 1 - 1 = omega arith in ap (position k) p);
       before = λ j p. go j p (ℕ_discrete j i);
     }
@@ -183,7 +183,7 @@ module _ (n : ℕ) (used : List Bool) where
 
     kept : k i ≡ true → Counted k (set ns i (next + 1)) (next + 1) (i + 1)
     kept g =
-        counted_next k ns next i c h (next + 1) (omega (arith, c.fewer))
+        counted_next k ns next i c h (next + 1)
         (rw (add-one next) (ap suc c.number ∙ sym (position-kept k (i - 1) (ap k before_i ∙ g)) ∙ ap (position k) before_i))
 
     pub counted_factor : i ≤ n → Counted k (set ns i (next + 1)) (next + 1) (i + 1)
@@ -194,5 +194,5 @@ module _ (n : ℕ) (used : List Bool) where
 
     pub counted_unused : n < i → get_or used i false ≡ false → Counted k (set ns i next) next (i + 1)
     counted_unused l g =
-        counted_next k ns next i c h next (omega (arith, c.fewer))
+        counted_next k ns next i c h next
         (c.number ∙ sym (position-dropped k (i - 1) (ap k before_i ∙ rw (lt-leb i n l, g))) ∙ ap (position k) before_i)
